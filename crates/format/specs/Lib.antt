@@ -1,0 +1,10 @@
+pub mod Layout
+pub mod Numbers
+pub mod Outcomes
+pub mod Values
+pub mod Identifiers
+pub mod Bytes
+pub mod Rules
+pub mod Meaning
+pub mod Writing
+pub mod Composing

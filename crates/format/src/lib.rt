@@ -1,0 +1,22 @@
+//! The values of ring records' blocks, and the bytes that they are written in.
+
+mod composing;
+mod fields;
+mod identifier;
+pub mod layout;
+mod refusal;
+mod values;
+mod writing;
+
+pub use composing::ComposeFault;
+pub use composing::compose;
+pub use identifier::Identifier;
+pub use identifier::methods::NotWellFormed;
+pub use refusal::Refusal;
+pub use values::Block;
+pub use values::Command;
+pub use values::Digest;
+pub use values::Height;
+pub use values::Key;
+pub use values::Message;
+pub use values::Name;
