@@ -15,6 +15,7 @@ use Rattle.format.specs.Outcomes.{Refused, Passed, refusal, check, _>>_}
 use Rattle.format.specs.Bytes.{head-bytes, bytes-of}
 use Rattle.format.specs.Rules.{head-allowed, block-allowed}
 use Rattle.format.specs.Meaning.{command-value, block-value}
+use Rattle.format.specs.Values.{BlockValue}
 use Rattle.format.specs.Writing.{Wrote}
 use Rattle.format.specs.Composing.{encoded, composed}
 use Rattle.format.specs.declared.values.Block.{Block}
@@ -30,6 +31,15 @@ some-len false n m e = let z : _≡_ {A = ℕ} 0 1 = cc in absurd (omega arith)
 pub no-len : (t : Bool) (m : ℕ) → _≡_ {A = Option ℕ} None (cond t (Some m) None) → t ≡ false
 no-len true m e = let z : _≡_ {A = ℕ} 0 1 = cc in absurd (omega arith)
 no-len false m e = refl
+
+passed-is : (s t : Bool) (m n : ℕ) → (check s (refusal 25) >> (check t (refusal 24) >> Passed m)) ≡ Passed n → m ≡ n
+passed-is true true m n e = cc
+passed-is true false m n e = let z : _≡_ {A = ℕ} 0 1 = cc in absurd (omega arith)
+passed-is false t m n e = let z : _≡_ {A = ℕ} 0 1 = cc in absurd (omega arith)
+
+-- what is answered is the block's length
+pub composed-length : (b : BlockValue) (room n : ℕ) → composed b room ≡ Passed n → length (bytes-of b) ≡ n
+composed-length b room n e = passed-is (block-allowed b) (leb (length (bytes-of b)) room) (length (bytes-of b)) n e
 
 module _ (b : Block) where
   abbrev pub head-keeps : Bool

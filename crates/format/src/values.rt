@@ -1,4 +1,7 @@
 //! The values that blocks are made of.
+ghost use mathlib.Core.Path.{_≡_};
+ghost use Rattle.hash.specs.Sha256.{sha256-of};
+ghost use Rattle.format.specs.Meaning.{digest-value};
 use crate::identifier::Identifier;
 use crate::layout::DIGEST_LEN;
 
@@ -6,6 +9,17 @@ use crate::layout::DIGEST_LEN;
 #[derive(Clone, Copy)]
 pub struct Digest {
     pub bytes: [u8; DIGEST_LEN],
+}
+
+impl Digest {
+    /// The digest of a block: SHA-256 over its bytes alone.
+    pub fn of(block: &[u8]) -> Digest
+        ensures { λ r. ⌜ digest-value r ≡ sha256-of (now (block .entry)) ⌝ }
+    {
+        Digest {
+            bytes: hash::sha256(block),
+        }
+    }
 }
 
 /// The key of an owner or a member; 0 stands for none.
