@@ -15,16 +15,12 @@ use Rattle.format.specs.Rules.{block-allowed}
 use Rattle.format.specs.Writing.{overwritten}
 use Rattle.format.specs.Outcomes.{RefusalValue, refusal, Outcome, Refused, Passed, _>>_, check}
 use Rattle.format.specs.declared.values.Command.{Command}
-use Rattle.format.specs.declared.refusal.Refusal.{Refusal}
 use Rattle.format.specs.declared.composing.ComposeFault.{ComposeFault}
 use Rattle.format.specs.declared.composing.ComposeFault.the-variants.{TooShort, OutsideRules}
 
 -- the bytes of a command of the code
 abbrev pub encoded : Command → List ℕ
 encoded c = command-bytes (command-value c)
-
-abbrev pub refusal-value : Refusal → RefusalValue
-refusal-value r = record { number = r .number; place = r .place; inner = r .inner }
 
 -- the numbers that a refusal of compose carries
 abbrev pub compose-refusal : ComposeFault → RefusalValue

@@ -2,7 +2,9 @@
 use mathlib.Core.List.{map}
 use lib.ListN.{take}
 use Rattle.format.specs.Values.{IdentifierValue, DigestValue, NameValue, MessageValue, CommandValue, opens, changes, closes, executes, receives, BlockValue}
+use Rattle.format.specs.Outcomes.{RefusalValue}
 use Rattle.format.specs.declared.identifier.Identifier.{Identifier}
+use Rattle.format.specs.declared.refusal.Refusal.{Refusal}
 use Rattle.format.specs.declared.values.Digest.{Digest}
 use Rattle.format.specs.declared.values.Name.{Name}
 use Rattle.format.specs.declared.values.Message.{Message}
@@ -37,3 +39,6 @@ block-value b = record {
   previous = digest-value (b .previous);
   commands = map command-value (b .commands .now);
 }
+
+abbrev pub refusal-value : Refusal → RefusalValue
+refusal-value r = record { number = r .number; place = r .place; inner = r .inner }

@@ -7,9 +7,9 @@ ghost use mathlib.Core.Path.{_≡_};
 ghost use Rattle.std.specs.Joined.{joined};
 ghost use Rattle.std.specs.declared.option.Option.the-variants.{Some, None};
 ghost use Rattle.format.specs.Bytes.{head-bytes, operands-len};
-ghost use Rattle.format.specs.Composing.{Block-lengths, compose-answer, compose-refusal, composed, encoded, left-by-compose, refusal-value};
+ghost use Rattle.format.specs.Composing.{Block-lengths, compose-answer, compose-refusal, composed, encoded, left-by-compose};
 ghost use Rattle.format.specs.Layout.{digest-len, head-len, max-commands};
-ghost use Rattle.format.specs.Meaning.{block-value, command-value};
+ghost use Rattle.format.specs.Meaning.{block-value, command-value, refusal-value};
 ghost use Rattle.format.specs.Rules.{command-allowed, commands-allowed, head-allowed};
 ghost use Rattle.format.specs.Writing.{Wrote};
 use crate::fields::value_bytes;
@@ -53,9 +53,9 @@ impl ComposeFault {
     }
 }
 
-// Whether height, previous digest and command count keep the rules of a block's head.
-// A caller that only hands the digest on learns its length here.
-fn head_is_allowed(height: Height, previous: &Digest, count: usize) -> bool
+/// Whether height, previous digest and command count keep the rules of a block's head.
+/// A caller that only hands the digest on learns its length here.
+pub fn head_is_allowed(height: Height, previous: &Digest, count: usize) -> bool
     ensures value { λ r. ⌜ r ≡ head-allowed (height .0) (now (previous .entry) .bytes) count ⌝ }
     ensures len { λ _. ⌜ length (now (previous .entry) .bytes) ≡ digest-len ⌝ }
 {

@@ -10,6 +10,7 @@ mod writing;
 
 pub use composing::ComposeFault;
 pub use composing::compose;
+pub use composing::head_is_allowed;
 pub use identifier::Identifier;
 pub use identifier::methods::NotWellFormed;
 pub use refusal::Refusal;

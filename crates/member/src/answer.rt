@@ -66,7 +66,11 @@ fn show_block(rt: &LibcRuntime, draft: &Draft) -> Result<(), AnyError> {
 fn show_rings(rt: &LibcRuntime, draft: &Draft, target: &Identifier) -> Result<(), AnyError> {
     let chain = Dotted(&draft.chain);
     let height = draft.height.0;
-    println!(rt, "Ring records of chain {chain}, block {height}, sent on to chain {}:", Dotted(target))?;
+    println!(
+        rt,
+        "Ring records of chain {chain}, block {height}, sent on to chain {}:",
+        Dotted(target)
+    )?;
     for command in &draft.commands {
         if let Command::Execute { argument, .. } = command {
             println!(rt, "  ring {}", Offset(*argument))?;
@@ -78,7 +82,11 @@ fn show_rings(rt: &LibcRuntime, draft: &Draft, target: &Identifier) -> Result<()
 fn show_commands(rt: &LibcRuntime, draft: &Draft) -> Result<(), AnyError> {
     let chain = Dotted(&draft.chain);
     let height = draft.height.0;
-    println!(rt, "Block {height} of chain {chain}, commands: {}", draft.commands.len())?;
+    println!(
+        rt,
+        "Block {height} of chain {chain}, commands: {}",
+        draft.commands.len()
+    )?;
     show_block(rt, draft)
 }
 

@@ -29,12 +29,21 @@ pub impl fmt::Display for ParseFault as ParseFaultDisplay {
     fn fmt<W: fmt::Write>(&self, f: &mut fmt::Formatter<W>) -> fmt::Result {
         match self {
             ParseFault::Word => write!(f, "the first word is none of ring and compose"),
-            ParseFault::Identifier => write!(f, "an identifier is one to four numbers from 0 to 65535, joined by dots"),
+            ParseFault::Identifier => write!(
+                f,
+                "an identifier is one to four numbers from 0 to 65535, joined by dots"
+            ),
             ParseFault::Height => write!(f, "a height is a number from 0 to 65535"),
-            ParseFault::Digest => write!(f, "a digest is 64 hexadecimal digits in lower case, or -"),
+            ParseFault::Digest => write!(
+                f,
+                "a digest is 64 hexadecimal digits in lower case, or -"
+            ),
             ParseFault::Key => write!(f, "a key is 8 hexadecimal digits in lower case"),
             ParseFault::Number => write!(f, "a number is missing, or out of its range"),
-            ParseFault::Command => write!(f, "a command is open:ID:KEY, change:KEY, close, execute:CODE:ARGUMENT:ID or receive:ID:HEIGHT:INDEX:CODE:VALUE"),
+            ParseFault::Command => write!(
+                f,
+                "a command is open:ID:KEY, change:KEY, close, execute:CODE:ARGUMENT:ID or receive:ID:HEIGHT:INDEX:CODE:VALUE"
+            ),
             ParseFault::Missing => write!(f, "a word is missing"),
         }
     }

@@ -70,11 +70,13 @@ fn head(heap: Global, chain: &str, height: &str, previous: &str) -> Result<Draft
 fn rings(mut draft: Draft, target: Identifier, offsets: &[&str]) -> Result<Request, RequestFault> {
     for offset in offsets {
         let argument = parse::signed(offset)?;
-        draft.commands.push(Command::Execute {
-            code: RECORD_AND_SEND,
-            argument,
-            target,
-        })?;
+        draft
+            .commands
+            .push(Command::Execute {
+                code: RECORD_AND_SEND,
+                argument,
+                target,
+            })?;
     }
     Ok(Request::Rings { draft, target })
 }

@@ -1,0 +1,9 @@
+pub mod Fields
+pub mod Commands
+pub mod Blocks
+pub mod Parts
+pub mod Views
+pub mod Cursors
+pub mod FrameLayout
+pub mod Frames
+pub mod RoundTrip
