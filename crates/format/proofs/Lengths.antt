@@ -13,30 +13,30 @@ use Rattle.std.proofs.shelf.Tests.{and-parts, leb-true}
 use Rattle.std.specs.Joined.{joined}
 use Rattle.std.specs.shelf.Text.{sameBytes}
 use Rattle.format.specs.Layout.{number-len, height-len, digest-len, value-len, max-depth, max-height, identifier-len, name-len, receive-len, head-len, max-commands, command-byte-len}
-use Rattle.format.specs.Numbers.{be-bytes, signed-bytes}
+use Rattle.format.specs.Numbers.{to-bytes, signed-bytes}
 use Rattle.format.specs.Identifiers.{padded}
 use Rattle.format.specs.Values.{IdentifierValue, NameValue, MessageValue, CommandValue, opens, changes, closes, executes, receives, BlockValue}
 use Rattle.format.specs.Bytes.{identifier-bytes, name-bytes, message-bytes, command-bytes, operands-len, head-bytes, bytes-of}
 use Rattle.format.specs.Composing.{Block-lengths}
 use Rattle.format.specs.Rules.{head-allowed, zero-digest}
 use Rattle.format.proofs.Identifiers.{length-padded}
-use Rattle.format.proofs.Numbers.{length-be-bytes, length-joined}
+use Rattle.format.proofs.Numbers.{length-of-bytes, length-joined}
 
 pub length-signed : (z : ℤ) → length (signed-bytes z) ≡ value-len
-length-signed z = length-be-bytes value-len (ofZ w64 z)
+length-signed z = length-of-bytes value-len (ofZ w64 z)
 
 pub length-identifier : (c : IdentifierValue) → length (identifier-bytes c) ≡ identifier-len
 unfolding identifier-bytes
 length-identifier c =
-    let numbers : length (joined (be-bytes number-len) (padded c)) ≡ max-depth * number-len
-    = length-joined (be-bytes number-len) number-len (length-be-bytes number-len) (padded c) ∙ ap (λ k. k * number-len) (length-padded c) in
+    let numbers : length (joined (to-bytes number-len) (padded c)) ≡ max-depth * number-len
+    = length-joined (to-bytes number-len) number-len (length-of-bytes number-len) (padded c) ∙ ap (λ k. k * number-len) (length-padded c) in
     omega arith
 
 pub length-name : (n : NameValue) → length (name-bytes n) ≡ name-len
 unfolding name-bytes
 length-name n =
     let sender = length-identifier (n .sender) in
-    let height = length-be-bytes height-len (n .height) in
+    let height = length-of-bytes height-len (n .height) in
     simp length-append (omega arith)
 
 pub length-message : (m : MessageValue) → length (message-bytes m) ≡ receive-len

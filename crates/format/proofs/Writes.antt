@@ -8,19 +8,19 @@ use lib.ListN.{length, take, drop, getD, length-append, length-take, length-drop
 use lib.Seq.{take-all}
 use Rattle.std.proofs.shelf.Lists.{take-at, drop-at, drop-drop, drop-all, take-more, at-drop-more}
 use Rattle.std.specs.Joined.{joined}
-use Rattle.format.specs.Writing.{overwritten, Wrote}
+use Rattle.format.specs.Writing.{written, Wrote}
 
-pub length-overwritten : (d : List ℕ) (a : ℕ) (x : List ℕ) → a + length x ≤ length d → length (overwritten d a x) ≡ length d
-length-overwritten d a x h = simp (length-append, length-take, length-drop) (omega arith)
+pub length-written : (d : List ℕ) (a : ℕ) (x : List ℕ) → a + length x ≤ length d → length (written d a x) ≡ length d
+length-written d a x h = simp (length-append, length-take, length-drop) (omega arith)
 
-overwritten-twice : (d : List ℕ) (a : ℕ) (x y : List ℕ) → a + length x + length y ≤ length d → overwritten (overwritten d a x) (a + length x) y ≡ overwritten d a (x ++ y)
-overwritten-twice d a x y room =
+written-twice : (d : List ℕ) (a : ℕ) (x y : List ℕ) → a + length x + length y ≤ length d → written (written d a x) (a + length x) y ≡ written d a (x ++ y)
+written-twice d a x y room =
     let front : length (take a d ++ x) ≡ a + length x = simp (length-append, length-take) (omega arith) in
-    let split : overwritten d a x ≡ (take a d ++ x) ++ drop (a + length x) d = sym (append-assoc (take a d) x (drop (a + length x) d)) in
-    let before : take (a + length x) (overwritten d a x) ≡ take a d ++ x = ap (take (a + length x)) split ∙ take-at (take a d ++ x) (drop (a + length x) d) (a + length x) front in
-    let behind : drop (a + length x) (overwritten d a x) ≡ drop (a + length x) d = ap (drop (a + length x)) split ∙ drop-at (take a d ++ x) (drop (a + length x) d) (a + length x) front in
-    let after : drop (a + length x + length y) (overwritten d a x) ≡ drop (a + length x + length y) d
-    = sym (drop-drop (length y) (a + length x) (overwritten d a x)) ∙ ap (drop (length y)) behind ∙ drop-drop (length y) (a + length x) d in
+    let split : written d a x ≡ (take a d ++ x) ++ drop (a + length x) d = sym (append-assoc (take a d) x (drop (a + length x) d)) in
+    let before : take (a + length x) (written d a x) ≡ take a d ++ x = ap (take (a + length x)) split ∙ take-at (take a d ++ x) (drop (a + length x) d) (a + length x) front in
+    let behind : drop (a + length x) (written d a x) ≡ drop (a + length x) d = ap (drop (a + length x)) split ∙ drop-at (take a d ++ x) (drop (a + length x) d) (a + length x) front in
+    let after : drop (a + length x + length y) (written d a x) ≡ drop (a + length x + length y) d
+    = sym (drop-drop (length y) (a + length x) (written d a x)) ∙ ap (drop (length y)) behind ∙ drop-drop (length y) (a + length x) d in
     let end : a + length x + length y ≡ a + length (x ++ y) = simp length-append (omega arith) in
     (λ i. before i ++ (y ++ after i))
     ∙ append-assoc (take a d) x (y ++ drop (a + length x + length y) d)
@@ -29,7 +29,7 @@ overwritten-twice d a x y room =
 
 module _ {d : List ℕ} {a : ℕ} {x d₁ : List ℕ} {a₁ : ℕ} (p : Wrote d a x d₁ a₁) where
   pub kept-length : length d₁ ≡ length d
-  kept-length = ap length (p .held) ∙ length-overwritten d a x (p .fits)
+  kept-length = ap length (p .held) ∙ length-written d a x (p .fits)
 
   -- y behind x
   pub wrote-then : {y d₂ : List ℕ} {a₂ : ℕ} → Wrote d₁ a₁ y d₂ a₂ → Wrote d a (x ++ y) d₂ a₂
@@ -38,7 +38,7 @@ module _ {d : List ℕ} {a : ℕ} {x d₁ : List ℕ} {a₁ : ℕ} (p : Wrote d 
       record {
         fits = simp length-append (omega arith);
         end = q .end ∙ ap (λ j. j + length y) (p .end) ∙ simp length-append (omega arith);
-        held = q .held ∙ (λ i. overwritten (p .held i) (p .end i) y) ∙ overwritten-twice d a x y room;
+        held = q .held ∙ (λ i. written (p .held i) (p .end i) y) ∙ written-twice d a x y room;
       }
 
   -- the same bytes by another term
@@ -57,8 +57,8 @@ pub wrote-whole : {d x d₁ : List ℕ} {a₁ : ℕ} → Wrote d 0 x d₁ a₁ �
 wrote-whole {d} {x} p e = p .held ∙ ap (λ z. x ++ z) (drop-all (0 + length x) d (omega (arith, p .end))) ∙ append-nil x
 
 -- a part of the buffer copied over
-pub overwritten-part : (d : List ℕ) (a : ℕ) (x w : List ℕ) → w ≡ x → take a d ++ (w ++ drop (a + length x - a) (drop a d)) ≡ overwritten d a x
-overwritten-part d a x w e =
+pub written-part : (d : List ℕ) (a : ℕ) (x w : List ℕ) → w ≡ x → take a d ++ (w ++ drop (a + length x - a) (drop a d)) ≡ written d a x
+written-part d a x w e =
     let end : a + (a + length x - a) ≡ a + length x = omega arith in
     (λ i. take a d ++ (e i ++ drop (a + length x - a) (drop a d)))
     ∙ ap (λ z. take a d ++ (x ++ z)) (drop-drop (a + length x - a) a d ∙ ap (λ j. drop j d) end)

@@ -12,7 +12,7 @@ use Rattle.format.specs.Values.{BlockValue}
 use Rattle.format.specs.Bytes.{command-bytes, bytes-of}
 use Rattle.format.specs.Meaning.{command-value}
 use Rattle.format.specs.Rules.{block-allowed}
-use Rattle.format.specs.Writing.{overwritten}
+use Rattle.format.specs.Writing.{written}
 use Rattle.format.specs.Outcomes.{RefusalValue, refusal, Outcome, Refused, Passed, _>>_, check}
 use Rattle.format.specs.declared.values.Command.{Command}
 use Rattle.format.specs.declared.composing.ComposeFault.{ComposeFault}
@@ -40,7 +40,7 @@ composed b room =
 
 -- the destination then begins with the block; bytes after it stay, and where the call is refused all stay
 abbrev pub left-by-compose : BlockValue → List ℕ → Outcome ℕ → List ℕ
-left-by-compose b d (Passed n) = overwritten d 0 (bytes-of b)
+left-by-compose b d (Passed n) = written d 0 (bytes-of b)
 left-by-compose b d (Refused r) = d
 
 -- Whatever its commands, a block that keeps the rules has at least its head and at most sixteen of the longest command.

@@ -1,5 +1,6 @@
 -- The widths, limits and command bytes of blocks. Each has one name, the same as in the code.
 use Prim.Native.Nat.{ℕ, _+_, _*_, _-_}
+pub use Rattle.hash.specs.Sizes.{digest-len}
 
 -- widths of fields in bytes
 abbrev pub number-len : ℕ
@@ -7,9 +8,6 @@ number-len = 2
 
 abbrev pub height-len : ℕ
 height-len = 2
-
-abbrev pub digest-len : ℕ
-digest-len = 32
 
 abbrev pub key-len : ℕ
 key-len = 4

@@ -3,7 +3,7 @@ ghost use mathlib.Core.Path.{_≡_};
 ghost use Rattle.format.specs.Bytes.{message-bytes, name-bytes};
 ghost use Rattle.format.specs.Layout.{height-len, key-len};
 ghost use Rattle.format.specs.Meaning.{message-value, name-value};
-ghost use Rattle.format.specs.Numbers.{be-bytes, signed-bytes};
+ghost use Rattle.format.specs.Numbers.{to-bytes, signed-bytes};
 use crate::layout::HEIGHT_LEN;
 use crate::layout::KEY_LEN;
 use crate::layout::NAME_LEN;
@@ -17,7 +17,7 @@ use crate::writing::write_at;
 
 impl Height {
     pub(crate) fn to_bytes(self) -> [u8; HEIGHT_LEN]
-        ensures { λ r. ⌜ r ≡ be-bytes height-len (self .0) ⌝ }
+        ensures { λ r. ⌜ r ≡ to-bytes height-len (self .0) ⌝ }
     {
         self.0.to_be_bytes()
     }
@@ -25,7 +25,7 @@ impl Height {
 
 impl Key {
     pub(crate) fn to_bytes(self) -> [u8; KEY_LEN]
-        ensures { λ r. ⌜ r ≡ be-bytes key-len (self .0) ⌝ }
+        ensures { λ r. ⌜ r ≡ to-bytes key-len (self .0) ⌝ }
     {
         self.0.to_be_bytes()
     }

@@ -8,7 +8,7 @@ pub const NUMBER_LEN: usize = 2;
 
 pub const HEIGHT_LEN: usize = 2;
 
-pub const DIGEST_LEN: usize = 32;
+pub const DIGEST_LEN: usize = hash::DIGEST_LEN;
 
 pub const KEY_LEN: usize = 4;
 

@@ -3,7 +3,7 @@ ghost use Prim.Native.Nat.{_+_, _≤_};
 ghost use lib.ListN.{length};
 ghost use Rattle.std.specs.Joined.{joined};
 ghost use Rattle.format.specs.Layout.{number-len};
-ghost use Rattle.format.specs.Numbers.{be-bytes};
+ghost use Rattle.format.specs.Numbers.{to-bytes};
 ghost use Rattle.format.specs.Writing.{Wrote};
 use crate::layout::Number;
 
@@ -19,8 +19,8 @@ pub(crate) fn write_at(buffer: &mut [u8], at: usize, bytes: &[u8]) -> usize
 
 // Writes numbers one after another.
 pub(crate) fn write_numbers(buffer: &mut [u8], from: usize, numbers: &[Number]) -> usize
-    requires { ⌜ from + length (joined (be-bytes number-len) (now numbers)) ≤ length (now buffer) ⌝ }
-    ensures { λ r. ⌜ Wrote (now (buffer .entry)) from (joined (be-bytes number-len) (now (numbers .entry))) (now (buffer .exit)) r ⌝ }
+    requires { ⌜ from + length (joined (to-bytes number-len) (now numbers)) ≤ length (now buffer) ⌝ }
+    ensures { λ r. ⌜ Wrote (now (buffer .entry)) from (joined (to-bytes number-len) (now (numbers .entry))) (now (buffer .exit)) r ⌝ }
 {
     let mut at = from;
     for number in numbers {

@@ -20,7 +20,7 @@ use Rattle.std.specs.declared.option.Option.{Option}
 use Rattle.std.specs.declared.option.Option.the-variants.{Some, None}
 use Rattle.std.specs.shelf.Lists.{All}
 use Rattle.format.specs.Layout.{number-len, height-len, key-len, code-len, value-len, depth-len, max-depth, identifier-len, name-len, open-len, change-len, execute-len, receive-len, open-byte, change-byte, execute-byte, receive-byte}
-use Rattle.format.specs.Numbers.{be-bytes, signed-bytes, be-number, signed-number}
+use Rattle.format.specs.Numbers.{to-bytes, signed-bytes, from-bytes, signed-number}
 use Rattle.format.specs.Identifiers.{well-formed, padded}
 use Rattle.format.specs.Values.{IdentifierValue, NameValue, MessageValue, CommandValue, changes, receives}
 use Rattle.format.specs.Bytes.{identifier-bytes, name-bytes, message-bytes, command-bytes}
@@ -51,7 +51,7 @@ length-numbers zero bs = refl
 length-numbers (suc n) bs = ap suc (length-numbers n (drop number-len bs))
 
 -- numbers of a width are written back as the bytes that they were read from
-numbers-only : (n : ℕ) (bs : List ℕ) → length bs ≡ n * number-len → All Byte bs → joined (be-bytes number-len) (numbers-in n bs) ≡ bs
+numbers-only : (n : ℕ) (bs : List ℕ) → length bs ≡ n * number-len → All Byte bs → joined (to-bytes number-len) (numbers-in n bs) ≡ bs
 numbers-only zero bs e low = sym (nil-from-length bs e)
 numbers-only (suc n) bs e low =
     let enough : number-len ≤ length bs = omega (arith, e, add-mul 1 n number-len, one-mul number-len) in
@@ -64,7 +64,7 @@ numbers-fit zero bs e low = tt
 numbers-fit (suc n) bs e low =
     let enough : number-len ≤ length bs = omega (arith, e, add-mul 1 n number-len, one-mul number-len) in
     let rest : length (drop number-len bs) ≡ n * number-len = simp length-drop (omega (arith, e, add-mul 1 n number-len, one-mul number-len)) in (
-      subst (λ w. be-number (take number-len bs) < 256 ^ w) (length-take-le number-len bs enough) (number-low (take number-len bs) (all-take Byte number-len bs low)),
+      subst (λ w. from-bytes (take number-len bs) < 256 ^ w) (length-take-le number-len bs enough) (number-low (take number-len bs) (all-take Byte number-len bs low)),
       numbers-fit n (drop number-len bs) rest (all-drop Byte number-len bs low),
     )
 
@@ -91,8 +91,8 @@ identifier-only bs c low e =
       same =
           drop-more bs 0 0 (omega (arith, long))
           ∙ (λ i. sym depth i ∷ sym (numbers-only max-depth (drop depth-len bs) rest low-rest) i)
-          ∙ (λ i. length (take d ns) ∷ joined (be-bytes number-len) (sym (padded-is d ns four (t .0)) i))
-          ∙ (λ i. length (c-is i) ∷ joined (be-bytes number-len) (padded (c-is i)));
+          ∙ (λ i. length (take d ns) ∷ joined (to-bytes number-len) (sym (padded-is d ns four (t .0)) i))
+          ∙ (λ i. length (c-is i) ∷ joined (to-bytes number-len) (padded (c-is i)));
       rule = subst Identifies c-is (record {
         some = omega (arith, depth, some);
         few = omega (arith, depth, depth-low d ns four (t .0));
@@ -101,11 +101,11 @@ identifier-only bs c low e =
     }
 
 module _ (xs : List ℕ) (long : length xs ≡ value-len) (low : All Byte xs) where
-  fits : Fits w64 (be-number xs)
-  fits = record { fits = subst (λ w. be-number xs < 256 ^ w) long (number-low xs low) }
+  fits : Fits w64 (from-bytes xs)
+  fits = record { fits = subst (λ w. from-bytes xs < 256 ^ w) long (number-low xs low) }
 
   signed-only : signed-bytes (signed-number xs) ≡ xs
-  signed-only = ap (be-bytes value-len) (ofZ-toZ w64 (be-number xs) (fits .fits)) ∙ bytes-back value-len xs long low
+  signed-only = ap (to-bytes value-len) (ofZ-toZ w64 (from-bytes xs) (fits .fits)) ∙ bytes-back value-len xs long low
 
   signed-fits : SFits w64 (signed-number xs)
   signed-fits = sfits-toZ fits
@@ -126,12 +126,12 @@ name-only bs n low e =
     let height = bytes-back height-len hs hs-long (all-take Byte height-len (drop identifier-len bs) (all-drop Byte identifier-len bs low)) in
     let last : drop (identifier-len + height-len) bs ≡ name-index bs ∷ []
     = drop-more bs (identifier-len + height-len) 0 (omega (arith, long)) ∙ ap (λ z. name-index bs ∷ z) (drop-all name-len bs (omega (arith, long))) in
-    let tail : drop identifier-len bs ≡ be-bytes height-len (name-height bs) ++ (name-index bs ∷ [])
-    = split height-len (drop identifier-len bs) ∙ (λ i. sym height i ++ drop height-len (drop identifier-len bs)) ∙ ap (λ z. be-bytes height-len (name-height bs) ++ z) (drop-drop height-len identifier-len bs ∙ last) in
+    let tail : drop identifier-len bs ≡ to-bytes height-len (name-height bs) ++ (name-index bs ∷ [])
+    = split height-len (drop identifier-len bs) ∙ (λ i. sym height i ++ drop height-len (drop identifier-len bs)) ∙ ap (λ z. to-bytes height-len (name-height bs) ++ z) (drop-drop height-len identifier-len bs ∙ last) in
     record {
       same =
           split identifier-len bs ∙ (λ i. sender .same i ++ tail i)
-          ∙ ap (λ m. identifier-bytes (m .sender) ++ (be-bytes height-len (m .height) ++ (m .index ∷ []))) (sym (t .2));
+          ∙ ap (λ m. identifier-bytes (m .sender) ++ (to-bytes height-len (m .height) ++ (m .index ∷ []))) (sym (t .2));
       rule = subst NameRule (sym (t .2)) (sender .rule, p .1);
     }
 
@@ -176,17 +176,17 @@ open-only xs o low e =
     let ks-long : length ks ≡ key-len = simp length-drop (omega (arith, long)) in
     let ks-low = all-drop Byte identifier-len xs low in (
       ap (λ z. open-byte ∷ z) (split identifier-len xs ∙ (λ i. child .same i ++ sym (bytes-back key-len ks ks-long ks-low) i)) ∙ ap command-bytes (sym (t .2)),
-      subst CommandRule (sym (t .2)) ((child .rule, subst (λ w. be-number ks < 256 ^ w) ks-long (number-low ks ks-low)), refl),
+      subst CommandRule (sym (t .2)) ((child .rule, subst (λ w. from-bytes ks < 256 ^ w) ks-long (number-low ks ks-low)), refl),
     )
 
 pub change-only : (xs : List ℕ) (o : CommandValue) → All Byte xs → change-in xs ≡ Some o → OnlyBehind change-byte xs o
 unfolding change-in
 change-only xs o low e =
-    let s = some-cond (eqb (length xs) change-len) (Some (changes (be-number xs))) o e in
+    let s = some-cond (eqb (length xs) change-len) (Some (changes (from-bytes xs))) o e in
     let long = eqb-true (length xs) change-len (s .0) in
-    let t : changes (be-number xs) ≡ o = let v = s .1 in cc in (
+    let t : changes (from-bytes xs) ≡ o = let v = s .1 in cc in (
       ap (λ z. change-byte ∷ z) (sym (bytes-back key-len xs long low)) ∙ ap command-bytes t,
-      subst CommandRule t (subst (λ w. be-number xs < 256 ^ w) long (number-low xs low), refl),
+      subst CommandRule t (subst (λ w. from-bytes xs < 256 ^ w) long (number-low xs low), refl),
     )
 
 pub execute-only : (xs : List ℕ) (o : CommandValue) → All Byte xs → execute-in xs ≡ Some o → OnlyBehind execute-byte xs o

@@ -21,7 +21,7 @@ use Rattle.std.specs.Options.{mapped}
 use Rattle.std.specs.declared.option.Option.the-variants.{Some, None}
 use Rattle.std.specs.shelf.Lists.{All}
 use Rattle.format.specs.Layout.{number-len, height-len, digest-len, key-len, code-len, value-len, max-depth, max-height, max-index, identifier-len, name-len, head-len, open-len, execute-len, receive-len}
-use Rattle.format.specs.Numbers.{be-bytes, signed-bytes, be-number, signed-number}
+use Rattle.format.specs.Numbers.{to-bytes, signed-bytes, from-bytes, signed-number}
 use Rattle.format.specs.Identifiers.{all-zero, identified, padded}
 use Rattle.format.specs.Values.{IdentifierValue, NameValue, MessageValue, CommandValue, opens, changes, closes, executes, receives, BlockValue}
 use Rattle.format.specs.Bytes.{identifier-bytes, name-bytes, message-bytes, command-bytes, head-bytes, bytes-of}
@@ -29,7 +29,7 @@ use Rattle.format.specs.Rules.{name-allowed, command-allowed, commands-allowed,
 use Rattle.format.specs.Outcomes.{Passed, _>>=_, given}
 use Rattle.format.proofs.Identifiers.{length-padded, well-formed-at}
 use Rattle.format.proofs.Lengths.{length-identifier, length-name, length-message, length-signed, length-head}
-use Rattle.format.proofs.Numbers.{length-be-bytes, number-back}
+use Rattle.format.proofs.Numbers.{length-of-bytes, number-back}
 use Rattle.reading.specs.Fields.{numbers-in, identifier-in, name-height, name-index, name-in, message-in}
 use Rattle.reading.specs.Commands.{open-in, change-in, execute-in, operands-len-of, operands-in, command-in, command-len}
 use Rattle.reading.specs.Blocks.{HeadValue, height-at, previous-at, head-height, head-previous, head-count, head-of-chain, head-in, head-of, block-refusal, command-refusal, commands-in, block-of, block-in}
@@ -38,12 +38,12 @@ use Rattle.reading.proofs.Fronts.{with-byte}
 use Rattle.reading.proofs.Heads.{head-read}
 
 -- numbers of a width, one behind the other
-numbers-back : (xs : List ℕ) → All (λ n. n < 256 ^ number-len) xs → numbers-in (length xs) (joined (be-bytes number-len) xs) ≡ xs
+numbers-back : (xs : List ℕ) → All (λ n. n < 256 ^ number-len) xs → numbers-in (length xs) (joined (to-bytes number-len) xs) ≡ xs
 numbers-back [] low = refl
 numbers-back (x ∷ xs) low =
-    let front = take-at (be-bytes number-len x) (joined (be-bytes number-len) xs) number-len (length-be-bytes number-len x) in
-    let rest = drop-at (be-bytes number-len x) (joined (be-bytes number-len) xs) number-len (length-be-bytes number-len x) in
-    (λ i. be-number (front i) ∷ numbers-in (length xs) (rest i))
+    let front = take-at (to-bytes number-len x) (joined (to-bytes number-len) xs) number-len (length-of-bytes number-len x) in
+    let rest = drop-at (to-bytes number-len x) (joined (to-bytes number-len) xs) number-len (length-of-bytes number-len x) in
+    (λ i. from-bytes (front i) ∷ numbers-in (length xs) (rest i))
     ∙ (λ i. number-back number-len x (low .0) i ∷ numbers-back xs (low .1) i)
 
 zeros-zero : (n : ℕ) → all-zero (replicate n 0) ≡ true
@@ -80,9 +80,9 @@ module _ (c : IdentifierValue) (k : Identifies c) where
   pub identifier-back : identifier-in (identifier-bytes c) ≡ Some c
   unfolding identifier-in identifier-bytes
   identifier-back =
-      let numbers : numbers-in max-depth (joined (be-bytes number-len) (padded c)) ≡ padded c
-      = ap (λ n. numbers-in n (joined (be-bytes number-len) (padded c))) (sym (length-padded c)) ∙ numbers-back (padded c) padded-low in
-      cond-true _ (identified (length c) (numbers-in max-depth (joined (be-bytes number-len) (padded c)))) None (eq-eqb _ identifier-len (length-identifier c))
+      let numbers : numbers-in max-depth (joined (to-bytes number-len) (padded c)) ≡ padded c
+      = ap (λ n. numbers-in n (joined (to-bytes number-len) (padded c))) (sym (length-padded c)) ∙ numbers-back (padded c) padded-low in
+      cond-true _ (identified (length c) (numbers-in max-depth (joined (to-bytes number-len) (padded c)))) None (eq-eqb _ identifier-len (length-identifier c))
       ∙ ap (identified (length c)) numbers
       ∙ identified-back
 
@@ -94,28 +94,28 @@ low-height h e = let l = leb-true h max-height e in omega arith
 
 module _ (n : NameValue) (k : Identifies (n .sender)) (l : name-allowed n ≡ true) where
   abbrev bs : List ℕ
-  bs = identifier-bytes (n .sender) ++ (be-bytes height-len (n .height) ++ (n .index ∷ []))
+  bs = identifier-bytes (n .sender) ++ (to-bytes height-len (n .height) ++ (n .index ∷ []))
 
   allowed : (leb (n .height) max-height ≡ true) × (leb (n .index) max-index ≡ true)
   allowed = and-parts (leb (n .height) max-height) (leb (n .index) max-index) l
 
-  behind : drop identifier-len bs ≡ be-bytes height-len (n .height) ++ (n .index ∷ [])
-  behind = drop-at (identifier-bytes (n .sender)) (be-bytes height-len (n .height) ++ (n .index ∷ [])) identifier-len (length-identifier (n .sender))
+  behind : drop identifier-len bs ≡ to-bytes height-len (n .height) ++ (n .index ∷ [])
+  behind = drop-at (identifier-bytes (n .sender)) (to-bytes height-len (n .height) ++ (n .index ∷ [])) identifier-len (length-identifier (n .sender))
 
   sender-is : take identifier-len bs ≡ identifier-bytes (n .sender)
-  sender-is = take-at (identifier-bytes (n .sender)) (be-bytes height-len (n .height) ++ (n .index ∷ [])) identifier-len (length-identifier (n .sender))
+  sender-is = take-at (identifier-bytes (n .sender)) (to-bytes height-len (n .height) ++ (n .index ∷ [])) identifier-len (length-identifier (n .sender))
 
   height-is : name-height bs ≡ n .height
   height-is =
-      ap (λ z. be-number (take height-len z)) behind
-      ∙ ap be-number (take-at (be-bytes height-len (n .height)) (n .index ∷ []) height-len (length-be-bytes height-len (n .height)))
+      ap (λ z. from-bytes (take height-len z)) behind
+      ∙ ap from-bytes (take-at (to-bytes height-len (n .height)) (n .index ∷ []) height-len (length-of-bytes height-len (n .height)))
       ∙ number-back height-len (n .height) (low-height (n .height) (allowed .0))
 
   index-is : name-index bs ≡ n .index
   index-is =
-      ap (λ z. getD z (identifier-len + height-len) 0) (sym (append-assoc (identifier-bytes (n .sender)) (be-bytes height-len (n .height)) (n .index ∷ [])))
-      ∙ getD-at (identifier-bytes (n .sender) ++ be-bytes height-len (n .height)) (n .index) [] 0 (identifier-len + height-len)
-      (length-append (identifier-bytes (n .sender)) (be-bytes height-len (n .height)) ∙ ap (λ j. j + height-len) (length-identifier (n .sender)))
+      ap (λ z. getD z (identifier-len + height-len) 0) (sym (append-assoc (identifier-bytes (n .sender)) (to-bytes height-len (n .height)) (n .index ∷ [])))
+      ∙ getD-at (identifier-bytes (n .sender) ++ to-bytes height-len (n .height)) (n .index) [] 0 (identifier-len + height-len)
+      (length-append (identifier-bytes (n .sender)) (to-bytes height-len (n .height)) ∙ ap (λ j. j + height-len) (length-identifier (n .sender)))
 
   pub name-back : name-in (name-bytes n) ≡ Some n
   unfolding name-in name-bytes
@@ -150,17 +150,17 @@ module _ (m : MessageValue) (k : Identifies (m .name .sender)) (l : name-allowed
       ∙ ap (mapped (λ n. record { name = n; code = getD ms name-len 0; value = signed-number (drop (name-len + code-len) ms) })) (ap name-in name-is ∙ name-back (m .name) k l)
       ∙ (λ i. Some (record { name = m .name; code = code-is i; value = value-is i }))
 
-open-back : (c : IdentifierValue) (key : ℕ) → Identifies c → key < 256 ^ key-len → open-in (identifier-bytes c ++ be-bytes key-len key) ≡ Some (opens c key)
+open-back : (c : IdentifierValue) (key : ℕ) → Identifies c → key < 256 ^ key-len → open-in (identifier-bytes c ++ to-bytes key-len key) ≡ Some (opens c key)
 unfolding open-in
 open-back c key k h =
-    let child = take-at (identifier-bytes c) (be-bytes key-len key) identifier-len (length-identifier c) in
-    let rest = drop-at (identifier-bytes c) (be-bytes key-len key) identifier-len (length-identifier c) in
-    cond-true _ _ _ (eq-eqb _ open-len (length-append (identifier-bytes c) (be-bytes key-len key) ∙ ap (λ j. j + key-len) (length-identifier c)))
-    ∙ (λ i. mapped (λ d. opens d (be-number (rest i))) (identifier-in (child i)))
-    ∙ ap (mapped (λ d. opens d (be-number (be-bytes key-len key)))) (identifier-back c k)
+    let child = take-at (identifier-bytes c) (to-bytes key-len key) identifier-len (length-identifier c) in
+    let rest = drop-at (identifier-bytes c) (to-bytes key-len key) identifier-len (length-identifier c) in
+    cond-true _ _ _ (eq-eqb _ open-len (length-append (identifier-bytes c) (to-bytes key-len key) ∙ ap (λ j. j + key-len) (length-identifier c)))
+    ∙ (λ i. mapped (λ d. opens d (from-bytes (rest i))) (identifier-in (child i)))
+    ∙ ap (mapped (λ d. opens d (from-bytes (to-bytes key-len key)))) (identifier-back c k)
     ∙ ap (λ j. Some (opens c j)) (number-back key-len key h)
 
-change-back : (key : ℕ) → key < 256 ^ key-len → change-in (be-bytes key-len key) ≡ Some (changes key)
+change-back : (key : ℕ) → key < 256 ^ key-len → change-in (to-bytes key-len key) ≡ Some (changes key)
 unfolding change-in
 change-back key h = ap (λ j. Some (changes j)) (number-back key-len key h)
 
@@ -180,8 +180,8 @@ fronted byte xs rest o n e =
     with-byte (byte ∷ (xs ++ rest)) (omega arith) ∙ ap (operands-in byte) (take-at xs rest (operands-len-of byte) n) ∙ e
 
 pub command-back : (o : CommandValue) (rest : List ℕ) → CommandFits o → command-allowed o ≡ true → command-in (command-bytes o ++ rest) ≡ Some o
-command-back (opens c key) rest f l = fronted _ (identifier-bytes c ++ be-bytes key-len key) rest _ (let n = length-identifier c in simp length-append (omega arith)) (open-back c key (f .0) (f .1))
-command-back (changes key) rest f l = fronted _ (be-bytes key-len key) rest _ refl (change-back key f)
+command-back (opens c key) rest f l = fronted _ (identifier-bytes c ++ to-bytes key-len key) rest _ (let n = length-identifier c in simp length-append (omega arith)) (open-back c key (f .0) (f .1))
+command-back (changes key) rest f l = fronted _ (to-bytes key-len key) rest _ refl (change-back key f)
 command-back closes rest f l = fronted _ [] rest _ refl refl
 command-back (executes code a t) rest f l = fronted _ (code ∷ (signed-bytes a ++ identifier-bytes t)) rest _ (let n = length-identifier t in simp length-append (omega arith)) (execute-back code a t (f .1) (f .2))
 command-back (receives m) rest f l = fronted _ (message-bytes m) rest _ (length-message m) (ap (mapped receives) (message-back m (f .0) l (f .2)))
@@ -192,8 +192,8 @@ unfolding command-len
 front-rest byte xs rest n = ap (λ j. drop j (byte ∷ (xs ++ rest))) (one-add (operands-len-of byte)) ∙ drop-at xs rest (operands-len-of byte) n
 
 pub command-rest : (o : CommandValue) (rest : List ℕ) → drop (command-len (command-bytes o ++ rest)) (command-bytes o ++ rest) ≡ rest
-command-rest (opens c key) rest = front-rest _ (identifier-bytes c ++ be-bytes key-len key) rest (let n = length-identifier c in simp length-append (omega arith))
-command-rest (changes key) rest = front-rest _ (be-bytes key-len key) rest refl
+command-rest (opens c key) rest = front-rest _ (identifier-bytes c ++ to-bytes key-len key) rest (let n = length-identifier c in simp length-append (omega arith))
+command-rest (changes key) rest = front-rest _ (to-bytes key-len key) rest refl
 command-rest closes rest = front-rest _ [] rest refl
 command-rest (executes code a t) rest = front-rest _ (code ∷ (signed-bytes a ++ identifier-bytes t)) rest (let n = length-identifier t in simp length-append (omega arith))
 command-rest (receives m) rest = front-rest _ (message-bytes m) rest (length-message m)
@@ -221,19 +221,19 @@ module _ (b : BlockValue) (w : Within b) where
   head-length : length (head-bytes b) ≡ head-len
   head-length = length-head b (w .digest)
 
-  fields : whole ≡ identifier-bytes (b .chain) ++ (be-bytes height-len (b .height) ++ (b .previous ++ (length (b .commands) ∷ rest)))
+  fields : whole ≡ identifier-bytes (b .chain) ++ (to-bytes height-len (b .height) ++ (b .previous ++ (length (b .commands) ∷ rest)))
   unfolding head-bytes
   fields =
       append-assoc (identifier-bytes (b .chain)) _ rest
-      ∙ ap (λ z. identifier-bytes (b .chain) ++ z) (append-assoc (be-bytes height-len (b .height)) _ rest ∙ ap (λ z. be-bytes height-len (b .height) ++ z) (append-assoc (b .previous) (length (b .commands) ∷ []) rest))
+      ∙ ap (λ z. identifier-bytes (b .chain) ++ z) (append-assoc (to-bytes height-len (b .height)) _ rest ∙ ap (λ z. to-bytes height-len (b .height) ++ z) (append-assoc (b .previous) (length (b .commands) ∷ []) rest))
 
-  from-height : drop height-at whole ≡ be-bytes height-len (b .height) ++ (b .previous ++ (length (b .commands) ∷ rest))
+  from-height : drop height-at whole ≡ to-bytes height-len (b .height) ++ (b .previous ++ (length (b .commands) ∷ rest))
   from-height = ap (drop height-at) fields ∙ drop-at (identifier-bytes (b .chain)) _ height-at (length-identifier (b .chain))
 
   from-previous : drop previous-at whole ≡ b .previous ++ (length (b .commands) ∷ rest)
   from-previous =
       sym (drop-drop height-len height-at whole) ∙ ap (drop height-len) from-height
-      ∙ drop-at (be-bytes height-len (b .height)) _ height-len (length-be-bytes height-len (b .height))
+      ∙ drop-at (to-bytes height-len (b .height)) _ height-len (length-of-bytes height-len (b .height))
 
   chain-is : take identifier-len whole ≡ identifier-bytes (b .chain)
   chain-is = ap (take identifier-len) fields ∙ take-at (identifier-bytes (b .chain)) _ identifier-len (length-identifier (b .chain))
@@ -241,8 +241,8 @@ module _ (b : BlockValue) (w : Within b) where
   height-in-is : head-height whole ≡ b .height
   unfolding head-allowed
   height-in-is =
-      ap (λ z. be-number (take height-len z)) from-height
-      ∙ ap be-number (take-at (be-bytes height-len (b .height)) (b .previous ++ (length (b .commands) ∷ rest)) height-len (length-be-bytes height-len (b .height)))
+      ap (λ z. from-bytes (take height-len z)) from-height
+      ∙ ap from-bytes (take-at (to-bytes height-len (b .height)) (b .previous ++ (length (b .commands) ∷ rest)) height-len (length-of-bytes height-len (b .height)))
       ∙ number-back height-len (b .height) (low-height (b .height) (and-parts (leb (b .height) max-height) _ (parts .0) .0))
 
   previous-is : head-previous whole ≡ b .previous

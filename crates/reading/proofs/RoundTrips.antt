@@ -16,7 +16,7 @@ use Rattle.std.specs.declared.option.Option.{Option}
 use Rattle.std.specs.declared.option.Option.the-variants.{Some, None}
 use Rattle.std.specs.shelf.Lists.{All}
 use Rattle.format.specs.Layout.{height-len, digest-len, command-byte-len, identifier-len, head-len, open-byte, change-byte, close-byte, execute-byte, receive-byte}
-use Rattle.format.specs.Numbers.{be-bytes}
+use Rattle.format.specs.Numbers.{to-bytes}
 use Rattle.format.specs.Values.{CommandValue, closes, BlockValue}
 use Rattle.format.specs.Bytes.{identifier-bytes, command-bytes, head-bytes, bytes-of}
 use Rattle.format.specs.Rules.{head-allowed, commands-allowed}
@@ -95,7 +95,7 @@ commands-only (suc n) k bs cs low e =
 
 -- the head's bytes
 abbrev written-head : HeadValue → List ℕ
-written-head h = identifier-bytes (h .chain) ++ (be-bytes height-len (h .height) ++ (h .previous ++ (h .count ∷ [])))
+written-head h = identifier-bytes (h .chain) ++ (to-bytes height-len (h .height) ++ (h .previous ++ (h .count ∷ [])))
 
 pub record HeadOnly (bs : List ℕ) (h : HeadValue) : Type 0 where
   pub same : bs ≡ written-head h ++ drop head-len bs
@@ -118,14 +118,14 @@ head-only bs h low e =
     let last : drop count-at bs ≡ head-count bs ∷ drop head-len bs = drop-more bs count-at 0 (omega (arith, long)) in
     let from-previous : drop previous-at bs ≡ head-previous bs ++ (head-count bs ∷ drop head-len bs)
     = split digest-len (drop previous-at bs) ∙ ap (λ z. head-previous bs ++ z) (drop-drop digest-len previous-at bs ∙ last) in
-    let from-height : drop height-at bs ≡ be-bytes height-len (head-height bs) ++ (head-previous bs ++ (head-count bs ∷ drop head-len bs))
-    = split height-len (drop height-at bs) ∙ (λ i. sym height i ++ drop height-len (drop height-at bs)) ∙ ap (λ z. be-bytes height-len (head-height bs) ++ z) (drop-drop height-len height-at bs ∙ from-previous) in
+    let from-height : drop height-at bs ≡ to-bytes height-len (head-height bs) ++ (head-previous bs ++ (head-count bs ∷ drop head-len bs))
+    = split height-len (drop height-at bs) ∙ (λ i. sym height i ++ drop height-len (drop height-at bs)) ∙ ap (λ z. to-bytes height-len (head-height bs) ++ z) (drop-drop height-len height-at bs ∙ from-previous) in
     subst (HeadOnly bs) (sym (t .2)) (record {
       same =
           split identifier-len bs ∙ (λ i. chain .same i ++ from-height i)
           ∙ sym (append-assoc (identifier-bytes (t .0)) _ (drop head-len bs)
-          ∙ ap (λ z. identifier-bytes (t .0) ++ z) (append-assoc (be-bytes height-len (head-height bs)) _ (drop head-len bs)
-          ∙ ap (λ z. be-bytes height-len (head-height bs) ++ z) (append-assoc (head-previous bs) (head-count bs ∷ []) (drop head-len bs))));
+          ∙ ap (λ z. identifier-bytes (t .0) ++ z) (append-assoc (to-bytes height-len (head-height bs)) _ (drop head-len bs)
+          ∙ ap (λ z. to-bytes height-len (head-height bs) ++ z) (append-assoc (head-previous bs) (head-count bs ∷ []) (drop head-len bs))));
       chain = chain .rule;
       digest = simp (length-take, length-drop) (omega (arith, long));
       bytes = all-take Byte digest-len (drop previous-at bs) (all-drop Byte previous-at bs low);
@@ -151,7 +151,7 @@ block-only bs low b e =
     let head = head-only bs h low (s .2) in
     let rest = commands-only (h .count) 0 (drop head-len bs) cs (all-drop Byte head-len bs low) (s .3) in
     let count = commands-count (h .count) 0 (drop head-len bs) cs (s .3) in (
-      head .same ∙ (λ i. (identifier-bytes (h .chain) ++ (be-bytes height-len (h .height) ++ (h .previous ++ (sym count i ∷ [])))) ++ rest .same i) ∙ ap bytes-of (sym (s .4)),
+      head .same ∙ (λ i. (identifier-bytes (h .chain) ++ (to-bytes height-len (h .height) ++ (h .previous ++ (sym count i ∷ [])))) ++ rest .same i) ∙ ap bytes-of (sym (s .4)),
       subst Within (sym (s .4)) (record {
         chain = head .chain;
         digest = head .digest;

@@ -8,7 +8,7 @@ use Rattle.std.specs.Options.{mapped}
 use Rattle.std.specs.declared.option.Option.{Option}
 use Rattle.std.specs.declared.option.Option.the-variants.{None}
 use Rattle.format.specs.Layout.{height-len, digest-len, identifier-len, head-len}
-use Rattle.format.specs.Numbers.{be-number}
+use Rattle.format.specs.Numbers.{from-bytes}
 use Rattle.format.specs.Rules.{head-allowed}
 use Rattle.format.specs.Values.{IdentifierValue, DigestValue, CommandValue, BlockValue}
 use Rattle.format.specs.Outcomes.{RefusalValue, refusal, refusal-at, Outcome, Passed, _>>=_, _>>_, check, given}
@@ -33,7 +33,7 @@ abbrev pub count-at : ℕ
 count-at = previous-at + digest-len
 
 abbrev pub head-height : List ℕ → ℕ
-head-height bs = be-number (take height-len (drop height-at bs))
+head-height bs = from-bytes (take height-len (drop height-at bs))
 
 abbrev pub head-previous : List ℕ → DigestValue
 head-previous bs = take digest-len (drop previous-at bs)

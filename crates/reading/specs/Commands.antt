@@ -8,17 +8,17 @@ use Rattle.std.specs.Options.{mapped}
 use Rattle.std.specs.declared.option.Option.{Option}
 use Rattle.std.specs.declared.option.Option.the-variants.{Some, None}
 use Rattle.format.specs.Layout.{code-len, value-len, command-byte-len, identifier-len, open-len, change-len, close-len, execute-len, receive-len, open-byte, change-byte, close-byte, execute-byte, receive-byte}
-use Rattle.format.specs.Numbers.{be-number, signed-number}
+use Rattle.format.specs.Numbers.{from-bytes, signed-number}
 use Rattle.format.specs.Values.{CommandValue, opens, changes, closes, executes, receives}
 use Rattle.reading.specs.Fields.{identifier-in, message-in}
 
 -- the operands of each command
 unfoldable pub open-in : List ℕ → Option CommandValue
 open-in bs =
-    cond (eqb (length bs) open-len) (mapped (λ c. opens c (be-number (drop identifier-len bs))) (identifier-in (take identifier-len bs))) None
+    cond (eqb (length bs) open-len) (mapped (λ c. opens c (from-bytes (drop identifier-len bs))) (identifier-in (take identifier-len bs))) None
 
 unfoldable pub change-in : List ℕ → Option CommandValue
-change-in bs = cond (eqb (length bs) change-len) (Some (changes (be-number bs))) None
+change-in bs = cond (eqb (length bs) change-len) (Some (changes (from-bytes bs))) None
 
 unfoldable pub execute-in : List ℕ → Option CommandValue
 execute-in bs =

@@ -8,21 +8,21 @@ use Rattle.std.specs.Options.{mapped}
 use Rattle.std.specs.declared.option.Option.{Option}
 use Rattle.std.specs.declared.option.Option.the-variants.{None}
 use Rattle.format.specs.Layout.{number-len, height-len, depth-len, code-len, max-depth, max-height, max-index, identifier-len, name-len, receive-len}
-use Rattle.format.specs.Numbers.{be-number, signed-number}
+use Rattle.format.specs.Numbers.{from-bytes, signed-number}
 use Rattle.format.specs.Identifiers.{identified}
 use Rattle.format.specs.Values.{IdentifierValue, NameValue, MessageValue}
 
 -- n numbers, one after another
 abbrev pub numbers-in : ℕ → List ℕ → List ℕ
 numbers-in zero bs = []
-numbers-in (suc n) bs = be-number (take number-len bs) ∷ numbers-in n (drop number-len bs)
+numbers-in (suc n) bs = from-bytes (take number-len bs) ∷ numbers-in n (drop number-len bs)
 
 -- a depth and four numbers that keep the rule of identifiers
 unfoldable pub identifier-in : List ℕ → Option IdentifierValue
 identifier-in bs = cond (eqb (length bs) identifier-len) (identified (getD bs 0 0) (numbers-in max-depth (drop depth-len bs))) None
 
 abbrev pub name-height : List ℕ → ℕ
-name-height bs = be-number (take height-len (drop identifier-len bs))
+name-height bs = from-bytes (take height-len (drop identifier-len bs))
 
 abbrev pub name-index : List ℕ → ℕ
 name-index bs = getD bs (identifier-len + height-len) 0

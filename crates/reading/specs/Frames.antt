@@ -10,7 +10,7 @@ use Rattle.std.specs.shelf.Text.{sameBytes}
 use Rattle.std.specs.declared.result.Result.{Result}
 use Rattle.std.specs.declared.result.Result.the-variants.{Ok, Err}
 use Rattle.format.specs.Layout.{max-block-len}
-use Rattle.format.specs.Numbers.{be-number}
+use Rattle.format.specs.Numbers.{from-bytes}
 use Rattle.format.specs.Outcomes.{Outcome, Refused, Passed, _>>_, check}
 use Rattle.reading.specs.FrameLayout.{marker-len, length-len, block-at, seal-count-len, member-len, max-seals, request-marker, certificate-marker}
 use Rattle.reading.specs.Blocks.{frame-refusal}
@@ -22,7 +22,7 @@ use Rattle.reading.specs.declared.certificate.Vote.{Vote}
 
 -- the length that the frame says the block has
 abbrev pub block-len : List ℕ → ℕ
-block-len f = be-number (take length-len (drop marker-len f))
+block-len f = from-bytes (take length-len (drop marker-len f))
 
 -- the frame begins with the letters and the length of a block
 abbrev pub begins : List ℕ → List ℕ → Bool

@@ -4,7 +4,7 @@ ghost use mathlib.Core.Path.{_≡_};
 ghost use Rattle.std.specs.Options.{mapped};
 ghost use Rattle.format.specs.Layout.{depth-len, height-len, identifier-len, key-len, max-depth, number-len, value-len};
 ghost use Rattle.format.specs.Meaning.{identifier-value, message-value, name-value};
-ghost use Rattle.format.specs.Numbers.{be-number, signed-number};
+ghost use Rattle.format.specs.Numbers.{from-bytes, signed-number};
 ghost use Rattle.reading.specs.Fields.{identifier-in, message-in, name-in, numbers-in as spec-numbers-in};
 use format::Height;
 use format::Identifier;
@@ -26,28 +26,28 @@ use format::layout::RECEIVE_LEN;
 // A number in two bytes.
 pub(crate) fn two_bytes_in(bytes: &[u8]) -> u16
     requires { ⌜ length (now bytes) ≡ 2 ⌝ }
-    ensures { λ r. ⌜ r ≡ be-number (now (bytes .entry)) ⌝ }
+    ensures { λ r. ⌜ r ≡ from-bytes (now (bytes .entry)) ⌝ }
 {
     u16::from_be_bytes([bytes[0], bytes[1]])
 }
 
 fn number_in(bytes: &[u8]) -> Number
     requires { ⌜ length (now bytes) ≡ number-len ⌝ }
-    ensures { λ r. ⌜ r ≡ be-number (now (bytes .entry)) ⌝ }
+    ensures { λ r. ⌜ r ≡ from-bytes (now (bytes .entry)) ⌝ }
 {
     two_bytes_in(bytes)
 }
 
 pub(crate) fn height_in(bytes: &[u8]) -> Height
     requires { ⌜ length (now bytes) ≡ height-len ⌝ }
-    ensures { λ r. ⌜ r .0 ≡ be-number (now (bytes .entry)) ⌝ }
+    ensures { λ r. ⌜ r .0 ≡ from-bytes (now (bytes .entry)) ⌝ }
 {
     Height(two_bytes_in(bytes))
 }
 
 pub(crate) fn key_in(bytes: &[u8]) -> Key
     requires { ⌜ length (now bytes) ≡ key-len ⌝ }
-    ensures { λ r. ⌜ r .0 ≡ be-number (now (bytes .entry)) ⌝ }
+    ensures { λ r. ⌜ r .0 ≡ from-bytes (now (bytes .entry)) ⌝ }
 {
     Key(u32::from_be_bytes([bytes[0], bytes[1], bytes[2], bytes[3]]))
 }

@@ -1,7 +1,6 @@
 use mathlib.Core.Path.{_≡_, sym, ap, _∙_}
-use mathlib.Core.List.{_++_}
 use native.Mathlib.Nat.{sub-zero}
-use lib.ListN.{length, take}
+use lib.ListN.{take}
 use Rattle.std.proofs.shelf.Lists.{take-at}
 use Rattle.hash.specs.Sha256.{sha256-of}
 use Rattle.format.specs.Bytes.{bytes-of}

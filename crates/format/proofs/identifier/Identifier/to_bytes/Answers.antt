@@ -7,16 +7,16 @@ use lib.ListN.{length}
 use Rattle.std.specs.Joined.{joined}
 use Rattle.format.specs.Bytes.{identifier-bytes}
 use Rattle.format.specs.Layout.{number-len, max-depth}
-use Rattle.format.specs.Numbers.{be-bytes}
+use Rattle.format.specs.Numbers.{to-bytes}
 use Rattle.format.specs.declared.identifier.Identifier.{Identifier}
 use Rattle.format.proofs.Identifiers.{depth-is, padded-is}
-use Rattle.format.proofs.Numbers.{length-be-bytes, length-joined}
+use Rattle.format.proofs.Numbers.{length-of-bytes, length-joined}
 use Rattle.format.proofs.Writes.{wrote-then, wrote-whole}
 use Rattle.format.proofs.identifier.Identifier.to_bytes.Needs as need
 
 -- the numbers fill what is left behind the depth
-filled : (x : Identifier) → length (x .numbers) ≡ max-depth → length (joined (be-bytes number-len) (x .numbers)) ≡ max-depth * number-len
-filled x long = length-joined (be-bytes number-len) number-len (length-be-bytes number-len) (x .numbers) ∙ ap (λ k. k * number-len) long
+filled : (x : Identifier) → length (x .numbers) ≡ max-depth → length (joined (to-bytes number-len) (x .numbers)) ≡ max-depth * number-len
+filled x long = length-joined (to-bytes number-len) number-len (length-of-bytes number-len) (x .numbers) ∙ ap (λ k. k * number-len) long
 
 pub write-numbers-requires : need.write-numbers-requires
 write-numbers-requires c κs =
@@ -30,4 +30,4 @@ returns c =
     let long : length (x .numbers) ≡ max-depth = search needs in
     wrote-whole (wrote-then (c .write-at-at .ensures) (c .write-numbers .ensures))
     (omega (arith, filled x long, c .write-at-at .ensures .end, c .write-numbers .ensures .end))
-    ∙ (λ i. sym (depth-is (x .depth) (x .numbers) long (x .ok)) i ∷ joined (be-bytes number-len) (sym (padded-is (x .depth) (x .numbers) long (x .ok)) i))
+    ∙ (λ i. sym (depth-is (x .depth) (x .numbers) long (x .ok)) i ∷ joined (to-bytes number-len) (sym (padded-is (x .depth) (x .numbers) long (x .ok)) i))
