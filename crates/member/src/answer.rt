@@ -91,7 +91,7 @@ fn show_commands(rt: &LibcRuntime, draft: &Draft) -> Result<(), AnyError> {
 }
 
 /// Answers the request in the line of that number.
-pub fn answer(rt: &LibcRuntime, number: u64, line: &str) -> Result<(), AnyError> {
+pub(crate) fn answer(rt: &LibcRuntime, number: u64, line: &str) -> Result<(), AnyError> {
     match read_line(rt.alloc(), line) {
         Ok(Request::Nothing) => Ok(()),
         Ok(Request::Rings { draft, target }) => show_rings(rt, &draft, &target),

@@ -50,7 +50,7 @@ pub impl fmt::Display for ParseFault as ParseFaultDisplay {
 }
 
 /// Numbers joined by dots, as `2.7`.
-pub fn identifier(text: &str) -> Result<Identifier, ParseFault> {
+pub(crate) fn identifier(text: &str) -> Result<Identifier, ParseFault> {
     let mut numbers = [0; MAX_DEPTH];
     let mut depth = 0usize;
     for part in text.split('.') {
@@ -72,7 +72,7 @@ pub fn identifier(text: &str) -> Result<Identifier, ParseFault> {
     }
 }
 
-pub fn height(text: &str) -> Result<Height, ParseFault> {
+pub(crate) fn height(text: &str) -> Result<Height, ParseFault> {
     match text.parse() {
         Ok(number) => Ok(Height(number)),
         Err(_) => Err(ParseFault::Height),
@@ -90,7 +90,7 @@ fn digit(byte: u8) -> Option<u8>
 }
 
 /// A digest in hexadecimal; `-` is the zero digest.
-pub fn digest(text: &str) -> Result<Digest, ParseFault> {
+pub(crate) fn digest(text: &str) -> Result<Digest, ParseFault> {
     let digits = text.as_bytes();
     let mut bytes = [0; DIGEST_LEN];
     if digits == b"-" {
@@ -112,7 +112,7 @@ pub fn digest(text: &str) -> Result<Digest, ParseFault> {
 }
 
 /// A key in hexadecimal.
-pub fn key(text: &str) -> Result<Key, ParseFault> {
+pub(crate) fn key(text: &str) -> Result<Key, ParseFault> {
     if text.len() != 8 {
         return Err(ParseFault::Key);
     }
@@ -134,7 +134,7 @@ fn byte(text: &str) -> Result<u8, ParseFault> {
 }
 
 /// A signed number.
-pub fn signed(text: &str) -> Result<i64, ParseFault> {
+pub(crate) fn signed(text: &str) -> Result<i64, ParseFault> {
     match text.parse() {
         Ok(number) => Ok(number),
         Err(_) => Err(ParseFault::Number),
@@ -142,7 +142,7 @@ pub fn signed(text: &str) -> Result<i64, ParseFault> {
 }
 
 /// A command, its operands joined by colons.
-pub fn command(text: &str) -> Result<Command, ParseFault> {
+pub(crate) fn command(text: &str) -> Result<Command, ParseFault> {
     let mut parts = text.split(':');
     let found = match parts.next() {
         Some("open") => Command::Open {

@@ -89,7 +89,7 @@ fn commands(mut draft: Draft, words: &[&str]) -> Result<Request, RequestFault> {
 }
 
 /// The request in a line.
-pub fn read_line(heap: Global, line: &str) -> Result<Request, RequestFault> {
+pub(crate) fn read_line(heap: Global, line: &str) -> Result<Request, RequestFault> {
     let words: Vec<&str> = line.split_whitespace().collect(heap)?;
     match words.as_slice() {
         [] => Ok(Request::Nothing),

@@ -6,6 +6,16 @@ ghost use Rattle.seals.specs.Meaning.{Holds, Laws};
 use format::Digest;
 use format::Key;
 
+mod lists;
+mod tags;
+
+pub use lists::Checked;
+pub use lists::CheckedList;
+pub use lists::CheckedListSeals;
+pub use tags::Secret;
+pub use tags::Tags;
+pub use tags::TagsSeals;
+
 /// A scheme of seals. Its meaning is a set of triples of a key, a digest and a seal.
 pub trait Seals {
     /// How many bytes a seal has, from 1 to 2,000.
