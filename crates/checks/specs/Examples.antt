@@ -5,7 +5,7 @@ use mathlib.Core.List.{List}
 use lib.ListN.{length, take}
 use Rattle.hash.specs.Sha256.{sha256-of}
 use Rattle.hash.specs.Hmac.{hmac-of}
-use Rattle.checks.specs.Hex.{from-hex}
+use Rattle.hex.specs.Hex.{from-hex}
 
 -- a digest, in hexadecimal
 abbrev pub Digest-stands : (message digest : List ℕ) → Type 0

@@ -2,7 +2,6 @@
 ghost use denote.Ref.{now};
 ghost use Rattle.checks.specs.Examples.{Digest-stands};
 use crate::Example;
-use crate::hex;
 use std::alloc::Global;
 
 pub(crate) struct DigestExample {

@@ -3,7 +3,6 @@ ghost use mathlib.Core.Path.{_≡_};
 ghost use mathlib.Core.Bool.{true};
 
 mod digests;
-mod hex;
 mod tags;
 
 use digests::DIGESTS;

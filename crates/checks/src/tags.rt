@@ -5,8 +5,7 @@ ghost use mathlib.Core.Bool.{true};
 ghost use Rattle.std.specs.Vec.{made};
 ghost use Rattle.checks.specs.Examples.{Tag-stands};
 use crate::Example;
-use crate::hex;
-use crate::hex::HexError;
+use hex::HexError;
 use std::alloc::Global;
 
 // The fewest bytes of a tag that are published.

@@ -1,9 +1,9 @@
 -- The padding of a message, and the blocks that it ends.
 use mathlib.Core.Path.{_≡_, refl, sym, ap, ap₂, _∙_}
-use mathlib.Core.List.{List, [], _∷_, _++_, append-assoc}
+use mathlib.Core.List.{List, _∷_, _++_, append-assoc}
 use Prim.Native.Nat.{ℕ, suc, _+_, _-_, _*_, _%_, _^_, _<_, _≤_}
 use native.Mathlib.Omega.{arith}
-use lib.ListN.{length, take, drop, set, replicate}
+use lib.ListN.{length, set, replicate}
 use Rattle.std.proofs.shelf.Lists.{append-nil, length-append, length-replicate, replicate-append-replicate, drop-replicate, drop-all, set-at, take-at}
 use Rattle.hash.specs.Sizes.{block-len, length-len, length-at, first-pad}
 use Rattle.hash.specs.Words.{to-bytes}

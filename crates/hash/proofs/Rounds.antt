@@ -1,13 +1,13 @@
 -- The rounds, sixteen at a time.
-use mathlib.Core.Path.{_≡_, refl, sym, ap, ap₂, _∙_}
+use mathlib.Core.Path.{_≡_, refl, ap, _∙_}
 use mathlib.Core.List.{List, _++_}
-use Prim.Native.Nat.{ℕ, zero, suc, _+_, _-_, _*_, _<_, _≤_}
+use Prim.Native.Nat.{ℕ, zero, suc, _+_, _-_, _*_, _≤_}
 use native.Mathlib.Nat.{add-zero, add-suc}
 use native.Mathlib.Omega.{arith}
 use lib.ListN.{length, getD, take, drop}
 use Rattle.std.proofs.shelf.Lists.{getD-append-left, getD-append-right}
 use Rattle.hash.specs.Sizes.{block-words, round-count}
-use Rattle.hash.specs.Sha256.{constants, after-round, after-rounds, extended, words-after}
+use Rattle.hash.specs.Sha256.{constants, after-rounds, extended, words-after}
 use Rattle.hash.proofs.Schedule.{schedule-split, words-after-length}
 
 -- the first rounds read the first constants and words alone

@@ -9,8 +9,6 @@ use crate::request::RequestFault;
 use crate::request::read_line;
 use crate::show::Dotted;
 use crate::show::DottedDisplay;
-use crate::show::Hex;
-use crate::show::HexDisplay;
 use crate::show::Offset;
 use crate::show::OffsetDisplay;
 use crate::show::Words;
@@ -22,6 +20,8 @@ use format::Digest;
 use format::Identifier;
 use format::compose;
 use format::layout::MAX_BLOCK_LEN;
+use hex::Hex;
+use hex::HexDisplay;
 use std::error::AnyError;
 
 /// The length of a block in a buffer, and its digest.

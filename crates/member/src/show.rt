@@ -3,19 +3,6 @@ use format::ComposeFault;
 use format::Identifier;
 use std::fmt;
 
-/// Bytes in lowercase hexadecimal.
-#[derive(Drop)]
-pub struct Hex<'a>(pub &'a [u8]);
-
-pub impl fmt::Display for Hex<'_> as HexDisplay {
-    fn fmt<W: fmt::Write>(&self, f: &mut fmt::Formatter<W>) -> fmt::Result {
-        for byte in self.0 {
-            write!(f, "{byte:02x}")?;
-        }
-        Ok(())
-    }
-}
-
 /// An identifier as its numbers, joined by dots.
 #[derive(Drop)]
 pub struct Dotted<'a>(pub &'a Identifier);

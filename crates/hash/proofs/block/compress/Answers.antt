@@ -1,8 +1,6 @@
 use mathlib.Core.Path.{_≡_, refl, sym, ap, ap₂, _∙_}
 use mathlib.Core.List.{List}
 use Prim.Native.Nat.{ℕ}
-use borrow.Author.Needs.{needs}
-use lib.ListN.{length}
 use Rattle.hash.specs.Sizes.{block-words}
 use Rattle.hash.specs.Words.{add-words}
 use Rattle.hash.specs.Sha256.{constants, words-of, words-after, after-rounds, schedule, compressed}

@@ -1,13 +1,9 @@
 use mathlib.Core.Path.{_≡_, sym, ap, ap₂, _∙_}
-use mathlib.Core.List.{List}
-use Prim.Native.Nat.{ℕ}
 use native.Mathlib.Omega.{arith}
 use lib.ListN.{length, take}
-use Rattle.std.specs.Of.Vec.{vec-items}
 use Rattle.std.proofs.shelf.Equals.{matches-decides}
 use Rattle.hash.specs.Hmac.{hmac-of}
-use Rattle.checks.specs.Hex.{from-hex}
-use Rattle.checks.specs.Examples.{shortest-tag, Tag-stands}
+use Rattle.hex.specs.Hex.{from-hex}
 use Rattle.checks.proofs.tags.TagExample.agrees.Needs as need
 
 pub returns : need.returns

@@ -8,8 +8,8 @@ use Rattle.std.specs.Text.{digitValue}
 use Rattle.std.specs.Vectors.{chunked}
 use Rattle.std.proofs.shelf.Lists.{map-more, take-all}
 use Rattle.std.proofs.shelf.Parts.{pushed}
-use Rattle.checks.specs.Hex.{byte-of}
-use Rattle.checks.proofs.hex.bytes_of.Needs as need
+use Rattle.hex.specs.Hex.{byte-of}
+use Rattle.hex.proofs.bytes_of.Needs as need
 
 -- one more pair of digits
 one-more : (pairs : List (List ℕ)) (i h l : ℕ) (bytes : List ℕ) → i < length pairs

@@ -1,29 +1,30 @@
-// Bytes as hexadecimal text, two digits each.
+//! Bytes as hexadecimal text, two digits each.
 ghost use Prim.Native.Nat.{_<_};
 ghost use mathlib.Core.Path.{_≡_};
 ghost use Rattle.std.specs.Of.Vec.{vec-items};
 ghost use Rattle.std.specs.Vec.{made};
 ghost use Rattle.std.specs.Text.{digitValue};
-ghost use Rattle.checks.specs.Hex.{from-hex};
+ghost use Rattle.hex.specs.Hex.{from-hex};
 use std::alloc::AllocError;
 use std::alloc::Global;
 use std::alloc::Refused;
+use std::fmt;
 
-// Why a text gives no bytes.
+/// Why a text gives no bytes.
 #[derive(Drop)]
-pub(crate) enum HexError {
+pub enum HexError {
     NoDigit,
     Odd,
     NoMemory,
 }
 
-impl From<AllocError> for HexError as FromAllocError {
+pub impl From<AllocError> for HexError as FromAllocError {
     fn from(_error: AllocError) -> HexError {
         HexError::NoMemory
     }
 }
 
-impl<T: Drop> From<Refused<T>> for HexError as FromRefused {
+pub impl<T: Drop> From<Refused<T>> for HexError as FromRefused {
     fn from(_refused: Refused<T>) -> HexError {
         HexError::NoMemory
     }
@@ -38,8 +39,8 @@ fn digit(c: u8) -> Result<u8, HexError>
     }
 }
 
-// The bytes that a text writes.
-pub(crate) fn bytes_of(heap: Global, text: &str) -> Result<Vec<u8>, HexError>
+/// The bytes that a text writes.
+pub fn bytes_of(heap: Global, text: &str) -> Result<Vec<u8>, HexError>
     ensures { λ r. ⌜ made r (λ v. vec-items v ≡ from-hex (now (text .entry))) ⌝ }
 {
     let (pairs, rest) = text.as_bytes().as_chunks::<2>();
@@ -53,4 +54,17 @@ pub(crate) fn bytes_of(heap: Global, text: &str) -> Result<Vec<u8>, HexError>
         bytes.push(16 * high + low)?;
     }
     Ok(bytes)
+}
+
+/// Bytes in lowercase hexadecimal.
+#[derive(Drop)]
+pub struct Hex<'a>(pub &'a [u8]);
+
+pub impl fmt::Display for Hex<'_> as HexDisplay {
+    fn fmt<W: fmt::Write>(&self, f: &mut fmt::Formatter<W>) -> fmt::Result {
+        for byte in self.0 {
+            write!(f, "{byte:02x}")?;
+        }
+        Ok(())
+    }
 }
