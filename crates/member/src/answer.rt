@@ -2,6 +2,7 @@
 ghost use lib.ListN.{length};
 ghost use Rattle.format.specs.Meaning.{block-value};
 ghost use Rattle.member.specs.Encoding.{Encodes};
+use crate::frames;
 use crate::parse::ParseFaultDisplay;
 use crate::request::Draft;
 use crate::request::Request;
@@ -92,10 +93,16 @@ fn show_commands(rt: &LibcRuntime, draft: &Draft) -> Result<(), AnyError> {
 
 /// Answers the request in the line of that number.
 pub(crate) fn answer(rt: &LibcRuntime, number: u64, line: &str) -> Result<(), AnyError> {
-    match read_line(rt.alloc(), line) {
+    match read_line(rt, line) {
         Ok(Request::Nothing) => Ok(()),
         Ok(Request::Rings { draft, target }) => show_rings(rt, &draft, &target),
         Ok(Request::Compose { draft }) => show_commands(rt, &draft),
+        Ok(Request::ShowRequest { scheme, frame }) => frames::request(rt, scheme, frame.as_slice()),
+        Ok(Request::ShowCertificate { scheme, frame }) => frames::certificate(
+            rt,
+            scheme,
+            frame.as_slice(),
+        ),
         Err(RequestFault::NotUnderstood(fault)) => {
             println!(rt, "error in line {number}: {fault}")?;
             Ok(())

@@ -23,12 +23,24 @@ pub enum ParseFault {
     Number,
     Command,
     Missing,
+    Scheme,
+    Frame,
+    File,
 }
 
 pub impl fmt::Display for ParseFault as ParseFaultDisplay {
     fn fmt<W: fmt::Write>(&self, f: &mut fmt::Formatter<W>) -> fmt::Result {
         match self {
-            ParseFault::Word => write!(f, "the first word is none of ring and compose"),
+            ParseFault::Word => write!(
+                f,
+                "the first word is none of ring, compose, request and certificate"
+            ),
+            ParseFault::Scheme => write!(f, "a scheme of seals is tag or list"),
+            ParseFault::Frame => write!(
+                f,
+                "a frame is in hexadecimal, two digits a byte, or a file's name behind @"
+            ),
+            ParseFault::File => write!(f, "the file cannot be read"),
             ParseFault::Identifier => write!(
                 f,
                 "an identifier is one to four numbers from 0 to 65535, joined by dots"

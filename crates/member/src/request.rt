@@ -1,4 +1,5 @@
 //! Requests from lines of text.
+use crate::frames::Scheme;
 use crate::parse;
 use crate::parse::ParseFault;
 use format::Command;
@@ -8,6 +9,7 @@ use format::Identifier;
 use std::alloc::AllocError;
 use std::alloc::Global;
 use std::alloc::Refused;
+use std::fs;
 
 // The operation of the ring register that counts a ring and sends it on to the target.
 const RECORD_AND_SEND: u8 = 1;
@@ -30,6 +32,10 @@ pub enum Request {
     Rings { draft: Draft, target: Identifier },
     /// A block of any commands.
     Compose { draft: Draft },
+    /// What is in a request frame.
+    ShowRequest { scheme: Scheme, frame: Vec<u8> },
+    /// What is in a certificate frame.
+    ShowCertificate { scheme: Scheme, frame: Vec<u8> },
 }
 
 /// Why a line gives no request.
@@ -88,8 +94,31 @@ fn commands(mut draft: Draft, words: &[&str]) -> Result<Request, RequestFault> {
     Ok(Request::Compose { draft })
 }
 
+fn scheme(word: &str) -> Result<Scheme, ParseFault> {
+    match word {
+        "tag" => Ok(Scheme::Tag),
+        "list" => Ok(Scheme::List),
+        _ => Err(ParseFault::Scheme),
+    }
+}
+
+// A frame in hexadecimal, or in the file that is named behind `@`.
+fn frame_bytes(rt: &LibcRuntime, word: &str) -> Result<Vec<u8>, RequestFault> {
+    if let Some(path) = word.strip_prefix('@') {
+        return match fs::read(rt, path) {
+            Ok(bytes) => Ok(bytes),
+            Err(_) => Err(RequestFault::NotUnderstood(ParseFault::File)),
+        };
+    }
+    match hex::bytes_of(rt.alloc(), word) {
+        Ok(bytes) => Ok(bytes),
+        Err(_) => Err(RequestFault::NotUnderstood(ParseFault::Frame)),
+    }
+}
+
 /// The request in a line.
-pub(crate) fn read_line(heap: Global, line: &str) -> Result<Request, RequestFault> {
+pub(crate) fn read_line(rt: &LibcRuntime, line: &str) -> Result<Request, RequestFault> {
+    let heap = rt.alloc();
     let words: Vec<&str> = line.split_whitespace().collect(heap)?;
     match words.as_slice() {
         [] => Ok(Request::Nothing),
@@ -100,7 +129,17 @@ pub(crate) fn read_line(heap: Global, line: &str) -> Result<Request, RequestFaul
         ["compose", chain, height, previous, words @ ..] => {
             commands(head(heap, chain, height, previous)?, words)
         }
-        ["ring" | "compose", ..] => Err(RequestFault::NotUnderstood(ParseFault::Missing)),
+        ["request", word, frame] => Ok(Request::ShowRequest {
+            scheme: scheme(word)?,
+            frame: frame_bytes(rt, frame)?,
+        }),
+        ["certificate", word, frame] => Ok(Request::ShowCertificate {
+            scheme: scheme(word)?,
+            frame: frame_bytes(rt, frame)?,
+        }),
+        ["ring" | "compose" | "request" | "certificate", ..] => Err(RequestFault::NotUnderstood(
+            ParseFault::Missing,
+        )),
         [first, ..] if first.starts_with('#') => Ok(Request::Nothing),
         _ => Err(RequestFault::NotUnderstood(ParseFault::Word)),
     }

@@ -1,6 +1,8 @@
 //! Values as text.
+use format::Command;
 use format::ComposeFault;
 use format::Identifier;
+use reading::ReadFault;
 use std::fmt;
 
 /// An identifier as its numbers, joined by dots.
@@ -45,6 +47,71 @@ pub impl fmt::Display for Words as WordsDisplay {
         match self.0 {
             ComposeFault::TooShort => write!(f, "the destination is too short"),
             ComposeFault::OutsideRules => write!(f, "a value is outside the block's rules"),
+        }
+    }
+}
+
+/// Why bytes are not read, in words.
+#[derive(Drop)]
+pub struct ReadWords(pub ReadFault);
+
+pub impl fmt::Display for ReadWords as ReadWordsDisplay {
+    fn fmt<W: fmt::Write>(&self, f: &mut fmt::Formatter<W>) -> fmt::Result {
+        match self.0 {
+            ReadFault::Frame => write!(
+                f,
+                "the frame's letters, lengths or seal count are wrong, or its block is too long"
+            ),
+            ReadFault::Block => write!(
+                f,
+                "the block's head is cut short or outside its rules, or bytes are left over"
+            ),
+            ReadFault::Command(place) => write!(
+                f,
+                "command {place} is missing or unknown, or its operands are cut short or outside their rules"
+            ),
+        }
+    }
+}
+
+/// A command in words.
+#[derive(Drop)]
+pub struct CommandWords(pub Command);
+
+pub impl fmt::Display for CommandWords as CommandWordsDisplay {
+    fn fmt<W: fmt::Write>(&self, f: &mut fmt::Formatter<W>) -> fmt::Result {
+        match self.0 {
+            Command::Open { child, key } => {
+                let key = key.0;
+                write!(f, "open chain {} with key {key:08x}", Dotted(&child))
+            }
+            Command::Change { key } => {
+                let key = key.0;
+                write!(f, "change the owner to key {key:08x}")
+            }
+            Command::Close => write!(f, "close the chain"),
+            Command::Execute {
+                code,
+                argument,
+                target,
+            } => {
+                write!(
+                    f,
+                    "execute {code} with {argument}, target chain {}",
+                    Dotted(&target)
+                )
+            }
+            Command::Receive { message } => {
+                let height = message.name.height.0;
+                let index = message.name.index;
+                let code = message.code;
+                let value = message.value;
+                write!(
+                    f,
+                    "receive {code} with {value}, sent by chain {} at height {height}, command {index}",
+                    Dotted(&message.name.sender)
+                )
+            }
         }
     }
 }
