@@ -1,0 +1,4 @@
+pub mod Steps
+pub mod Meaning
+pub mod Ring
+pub mod Stock
