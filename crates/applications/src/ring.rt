@@ -10,11 +10,15 @@ use crate::application::Sent;
 use crate::application::Step;
 
 const MIN_OFFSET: i64 = -500;
+
 const MAX_OFFSET: i64 = 500;
+
 const MAX_RINGS: i64 = 1_000_000;
 
 const RECORD_AND_SEND: u8 = 1;
+
 const RECORD_ONLY: u8 = 2;
+
 const RECORDED: u8 = 1;
 
 pub struct RingRegister;
@@ -48,7 +52,15 @@ pub impl Application for RingRegister as RingRegisterApplication {
 
     fn operate(a: i64, b: i64, code: u8, value: i64) -> Result<Step, ApplicationFault> {
         match code {
-            RECORD_AND_SEND => count(a, b, value, Some(Sent { code: RECORDED, value })),
+            RECORD_AND_SEND => count(
+                a,
+                b,
+                value,
+                Some(Sent {
+                    code: RECORDED,
+                    value,
+                }),
+            ),
             RECORD_ONLY => count(a, b, value, None),
             _ => Err(ApplicationFault { number: 1 }),
         }

@@ -10,12 +10,17 @@ use crate::application::Sent;
 use crate::application::Step;
 
 const MAX_LOT: i64 = 1_000;
+
 const MAX_STOCK: i64 = 1_000_000_000;
 
 const CAST: u8 = 1;
+
 const SEND_OFF: u8 = 2;
+
 const PLACE_ORDER: u8 = 3;
+
 const DELIVERY: u8 = 1;
+
 const ORDER: u8 = 2;
 
 pub struct SegmentStock;
@@ -30,7 +35,11 @@ fn add(a: i64, b: i64, n: i64) -> Result<Step, ApplicationFault>
     if a < 0 || a > MAX_STOCK || b < 0 || b > MAX_STOCK || a + n > MAX_STOCK {
         return Err(ApplicationFault { number: 4 });
     }
-    Ok(Step { a: a + n, b, sent: None })
+    Ok(Step {
+        a: a + n,
+        b,
+        sent: None,
+    })
 }
 
 // n more in a and in b.
@@ -43,7 +52,11 @@ fn arrive(a: i64, b: i64, n: i64) -> Result<Step, ApplicationFault>
     if a < 0 || a > MAX_STOCK || b < 0 || b > MAX_STOCK || a + n > MAX_STOCK || b + n > MAX_STOCK {
         return Err(ApplicationFault { number: 4 });
     }
-    Ok(Step { a: a + n, b: b + n, sent: None })
+    Ok(Step {
+        a: a + n,
+        b: b + n,
+        sent: None,
+    })
 }
 
 // n less in a, which are sent.
@@ -59,7 +72,10 @@ fn take(a: i64, b: i64, n: i64) -> Result<Step, ApplicationFault>
     if a > MAX_STOCK || b < 0 || b > MAX_STOCK {
         return Err(ApplicationFault { number: 4 });
     }
-    let sent = Some(Sent { code: DELIVERY, value: n });
+    let sent = Some(Sent {
+        code: DELIVERY,
+        value: n,
+    });
     Ok(Step { a: a - n, b, sent })
 }
 
@@ -73,7 +89,10 @@ fn place_order(a: i64, b: i64, n: i64) -> Result<Step, ApplicationFault>
     if a < 0 || a > MAX_STOCK || b < 0 || b > MAX_STOCK {
         return Err(ApplicationFault { number: 4 });
     }
-    let sent = Some(Sent { code: ORDER, value: n });
+    let sent = Some(Sent {
+        code: ORDER,
+        value: n,
+    });
     Ok(Step { a, b, sent })
 }
 
