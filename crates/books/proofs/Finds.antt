@@ -6,7 +6,7 @@ use mathlib.Core.Logic.{_⊎_, inl, inr, _≢_}
 use mathlib.Core.Path.{_≡_, refl, sym, ap, subst, _∙_}
 use native.Mathlib.Omega.{arith}
 use lib.ListN.{length, getD, set, take}
-use Rattle.std.specs.Options.{isSome}
+use Rattle.std.specs.Options.{Cases, isSome}
 use Rattle.std.specs.Orderings.{Decides}
 use Rattle.std.specs.declared.option.Option.{Option}
 use Rattle.std.specs.declared.option.Option.the-variants.{Some, None}
@@ -72,6 +72,10 @@ module _ {R K : Type 0} (key : R → K) (same : K → K → Bool) where
     find-in (x ∷ xs) k r e = split (cases-bool (same (key x) k))
         (λ t. let h : Some x ≡ Some r = rw t at e in let g : r ≡ x = cc in (inl g, ap key g ∙ agrees (key x) k t))
         (λ t. let p = find-in xs k r (rw t at e) in (inr (p .0), p .1))
+
+    pub found-key : (rs : List R) (k : K) (o : Option R) → o ≡ find key same rs k → Cases o (Unit {0}) (λ r. key r ≡ k)
+    found-key rs k None e = tt
+    found-key rs k (Some r) e = find-in rs k r (sym e) .1
 
     pub in-found : (rs : List R) (r : R) → In r rs → isSome (find key same rs (key r)) ≡ true
     in-found [] r m = absurd m

@@ -13,7 +13,7 @@ use Rattle.books.specs.Same.{same-sign, same-mark}
 different : {P : Type 0} → (P → ⊥) → Decides false P
 different f = (λ e. absurd (false≢true e), λ p. absurd (f p))
 
-sign-decides : (x y : SignValue) → Decides (same-sign x y) (x ≡ y)
+pub sign-decides : (x y : SignValue) → Decides (same-sign x y) (x ≡ y)
 sign-decides plus plus = (λ _. refl, λ _. refl)
 sign-decides plus minus = different (λ e. let z : _≡_ {A = ℕ} 0 1 = cc in omega arith)
 sign-decides minus plus = different (λ e. let z : _≡_ {A = ℕ} 0 1 = cc in omega arith)

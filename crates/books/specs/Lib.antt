@@ -7,3 +7,4 @@ pub mod Sides
 pub mod Order
 pub mod Books
 pub mod Lists
+pub mod Listed
