@@ -176,6 +176,18 @@ strict-order = record {
 pub stays-behind : (x y z : EntryValue) → before z y ≡ true → before x y ≡ false → before x z ≡ false
 stays-behind x y z d e = split (cases-bool (before x z)) (λ h. absurd (both-ways (before x y) e (strict-order .transitive x z y h d))) (λ h. h)
 
+-- what is not before a row is not before a later one, or one that is level with it
+pub behind-onward : (x y z : EntryValue) → before z y ≡ false → before y x ≡ false → before z x ≡ false
+behind-onward x y z d e =
+    split (cases-bool (before z x))
+    (λ h. absurd (both-ways (before z y) d (from (order y x) refl (less-from (order z x) h))))
+    (λ h. h)
+  where
+    from : (o : Ordering) → order y x ≡ o → order z x ≡ Less → before z y ≡ true
+    from Less h k = absurd (both-ways (before y x) e (ap isLt h))
+    from Equal h k = ap isLt (sym (level-after order rows-order z y x h) ∙ k)
+    from Greater h k = ap isLt (rows-order .onward z x y k (rows-order .turned y x ∙ ap reversed h))
+
 pub least-is-one : Least-is-one
 least-is-one at test None None d e = refl
 least-is-one at test None (Some y) d e = absurd (d y (e .0))

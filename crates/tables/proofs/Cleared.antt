@@ -19,11 +19,15 @@ cleared-more n b d l =
     ∙ ap (λ z. z ++ drop (n + 1) d) (replicate-more n b)
 
 -- what lies past the rows that are used
-pub drop-usable : {R : Type 0} (cap : ℕ) (d : List R) → drop (min (length d) cap) d ≡ drop cap d
+drop-usable : {R : Type 0} (cap : ℕ) (d : List R) → drop (min (length d) cap) d ≡ drop cap d
 drop-usable cap d =
     split (cases-lt cap (length d))
     (λ l. let e : min (length d) cap ≡ cap = omega arith in ap (λ n. drop n d) e)
     (λ l. drop-all (min (length d) cap) d (omega arith) ∙ sym (drop-all cap d l))
+
+pub cleared-is : {R : Type 0} (b : R) (rs rs′ : List R) (end : ℕ) → rs′ ≡ replicate end b ++ drop end rs → end ≡ usable rs → rs′ ≡ cleared b rs
+cleared-is b rs rs′ end e h =
+    e ∙ ap (λ n. replicate n b ++ drop n rs) h ∙ ap (λ z. replicate (usable rs) b ++ z) (drop-usable max-rows rs)
 
 map-replicate : {X Y : Type 0} (f : X → Y) (n : ℕ) (x : X) → map f (replicate n x) ≡ replicate n (f x)
 map-replicate f zero x = refl

@@ -16,6 +16,9 @@ use Rattle.books.proofs.Lists.{split}
 use Rattle.books.proofs.Finds.{find-first, find-absent, set-apart, set-find, push-apart, push-find, left-apart, left-find}
 use Rattle.tables.specs.Dense.{Edited, Put, Removed}
 
+pub itself : {X : Type 0} (x : X) → x ≡ x
+itself x = refl
+
 module _ {R K : Type 0} (key : R → K) (same : K → K → Bool) (decides : (x y : K) → Decides (same x y) (x ≡ y)) (cap : ℕ) (rows : List R) (n : ℕ) (within : n ≤ length rows) (limit : n ≤ cap) (apart : Apart key same (take n rows)) where
   abbrev rs : List R
   rs = take n rows

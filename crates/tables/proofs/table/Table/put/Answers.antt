@@ -1,9 +1,8 @@
-use borrow.Author.Needs.{needs}
-use mathlib.Core.Path.{refl}
 use native.Mathlib.Omega.{arith}
 use Rattle.std.proofs.shelf.Lists.{drop-set-lt, length-set}
+use Rattle.tables.specs.Held.{past}
 use Rattle.tables.specs.Limits.{max-rows}
-use Rattle.tables.proofs.Dense.{put-old, put-old-apart, put-new, put-new-apart, put-full}
+use Rattle.tables.proofs.Dense.{put-old, put-old-apart, put-new, put-new-apart, put-full, itself}
 use Rattle.tables.proofs.table.Table.put.Needs as need
 
 pub returns-in-Some : need.returns-in-Some
@@ -37,5 +36,5 @@ returns-else-n-size g c =
     record {
       change = put-full (g .R·Keyed .named) (g .R·Keyed .same) (g .R·Keyed·met .decides) max-rows (t .rows .now) (t .count) (s .0) (s .1) (s .2) (c .args .row) (rw (c .min-size .ensures) at (c .if-n-size .left)) (rw (c .key-key .ensures) at (c .in-None .ensures tt));
       sound = s;
-      rest = refl;
+      rest = itself (past t);
     }

@@ -1,8 +1,8 @@
-use mathlib.Core.Path.{refl}
 use native.Mathlib.Omega.{arith}
 use Rattle.std.proofs.shelf.Lists.{drop-set-lt, length-set}
+use Rattle.tables.specs.Held.{past}
 use Rattle.tables.specs.Limits.{max-rows}
-use Rattle.tables.proofs.Dense.{remove-old, remove-old-apart, remove-none}
+use Rattle.tables.proofs.Dense.{remove-old, remove-old-apart, remove-none, itself}
 use Rattle.tables.proofs.table.Table.remove.Needs as need
 
 pub returns-in-Some : need.returns-in-Some
@@ -24,5 +24,5 @@ returns-in-rest g c =
     record {
       change = remove-none (g .R·Keyed .named) (g .R·Keyed .same) (g .R·Keyed·met .decides) max-rows (t .rows .now) (t .count) (s .0) (s .1) (s .2) (g .R·Keyed .label (c .args .key .now)) (c .in-rest .ensures tt);
       sound = s;
-      rest = refl;
+      rest = itself (past t);
     }
