@@ -4,3 +4,4 @@ pub mod Lengths
 pub mod Writes
 pub mod Commands
 pub mod Composed
+pub mod Same

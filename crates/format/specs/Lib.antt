@@ -8,3 +8,4 @@ pub mod Rules
 pub mod Meaning
 pub mod Writing
 pub mod Composing
+pub mod Same

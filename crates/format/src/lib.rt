@@ -1,6 +1,7 @@
 //! The values of ring records' blocks, and the bytes that they are written in.
 
 mod composing;
+mod equality;
 mod fields;
 mod identifier;
 pub mod layout;
@@ -11,6 +12,10 @@ mod writing;
 pub use composing::ComposeFault;
 pub use composing::compose;
 pub use composing::head_is_allowed;
+pub use equality::DigestPartialEq;
+pub use equality::IdentifierPartialEq;
+pub use equality::MessagePartialEq;
+pub use equality::NamePartialEq;
 pub use identifier::Identifier;
 pub use identifier::methods::NotWellFormed;
 pub use refusal::Refusal;

@@ -1,10 +1,12 @@
 //! Making an identifier, and looking at its numbers.
+ghost use mathlib.Core.List.{[], _∷_};
 ghost use mathlib.Core.Path.{_≡_};
 ghost use Rattle.std.specs.Options.{mapped};
 ghost use Rattle.std.specs.Results.{okPart};
 ghost use Rattle.format.specs.Bytes.{identifier-bytes};
 ghost use Rattle.format.specs.Identifiers.{all-zero, well-formed, identified};
 ghost use Rattle.format.specs.Meaning.{identifier-value};
+ghost use Rattle.format.specs.Same.{first-is-even};
 use super::Identifier;
 use crate::layout::IDENTIFIER_LEN;
 use crate::layout::MAX_DEPTH;
@@ -43,6 +45,25 @@ impl Identifier {
             return Err(NotWellFormed);
         }
         Ok(Identifier { depth, numbers })
+    }
+
+    /// The identifier of one number.
+    pub fn root(number: Number) -> Identifier
+        ensures { λ r. ⌜ identifier-value r ≡ number ∷ [] ⌝ }
+    {
+        let mut numbers = [0; MAX_DEPTH];
+        numbers[0] = number;
+        Identifier { depth: 1, numbers }
+    }
+
+    /// Whether the first number is even.
+    pub fn first_is_even(&self) -> bool
+        ensures { λ r. ⌜ r ≡ first-is-even (identifier-value (now (self .entry))) ⌝ }
+    {
+        match self.numbers() {
+            [first, ..] => *first % 2 == 0,
+            [] => true,
+        }
     }
 
     /// The numbers in use.

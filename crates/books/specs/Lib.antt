@@ -1,0 +1,10 @@
+pub mod Values
+pub mod Counts
+pub mod Same
+pub mod Meaning
+pub mod Blanks
+pub mod Sides
+pub mod Order
+pub mod Books
+pub mod Lists
+pub mod Listed

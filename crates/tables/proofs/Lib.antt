@@ -1,0 +1,4 @@
+pub mod Cleared
+pub mod Dense
+pub mod Places
+pub mod Tried

@@ -1,0 +1,5 @@
+pub mod Limits
+pub mod Held
+pub mod Dense
+pub mod Within
+pub mod Meaning
