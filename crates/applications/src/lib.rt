@@ -6,6 +6,8 @@ mod stock;
 
 pub use application::Application;
 pub use application::ApplicationFault;
+pub use application::ApplicationFaultDebug;
+pub use application::ApplicationFaultPartialEq;
 pub use application::Sent;
 pub use application::Step;
 pub use ring::RingRegister;

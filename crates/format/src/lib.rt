@@ -10,6 +10,8 @@ mod values;
 mod writing;
 
 pub use composing::ComposeFault;
+pub use composing::ComposeFaultDebug;
+pub use composing::ComposeFaultPartialEq;
 pub use composing::compose;
 pub use composing::head_is_allowed;
 pub use equality::DigestPartialEq;

@@ -74,7 +74,7 @@ impl Identifier {
     }
 
     /// The depth, then four numbers.
-    pub fn to_bytes(&self) -> [u8; IDENTIFIER_LEN]
+    pub(crate) fn to_bytes(&self) -> [u8; IDENTIFIER_LEN]
         ensures { λ r. ⌜ r ≡ identifier-bytes (identifier-value (now (self .entry))) ⌝ }
     {
         let mut bytes = [0; IDENTIFIER_LEN];
