@@ -1,14 +1,14 @@
 -- Changes of books one after another, and the places that they take.
 use Prim.Native.Nat.{ℕ, _+_, _≤_}
-use mathlib.Core.Bool.{Bool, true, false, cond, not, _&&_, _||_}
+use mathlib.Core.Bool.{Bool, true, false, cond, not, _&&_}
 use mathlib.Core.List.{List, [], _∷_, _++_}
-use mathlib.Core.Path.{_≡_, refl, sym, ap, subst, _∙_}
+use mathlib.Core.Path.{_≡_, refl, ap, subst, _∙_}
 use native.Mathlib.Omega.{arith}
-use Rattle.std.proofs.shelf.Tests.{both-ways, cases-bool, or-left, or-right}
+use Rattle.std.proofs.shelf.Tests.{cases-bool, or-left, or-right}
 use Rattle.std.proofs.shelf.Ways.{when-true, when-false}
 use Rattle.format.specs.Values.{IdentifierValue}
 use Rattle.books.specs.Counts.{Counts, none, Fewer, Kind, a-record, a-mark, an-outgoing, more}
-use Rattle.books.specs.Books.{BooksValue, Rows, Fits, Laws, Operation, kind, chain-of, puts, present, apply, apply-all, Places, Step, goes, Tried, Changed, counting, needed}
+use Rattle.books.specs.Books.{BooksValue, Laws, Operation, kind, chain-of, puts, present, apply, apply-all, Places, Step, goes, Tried, Changed, counting, needed}
 use Rattle.books.proofs.Lists.{split}
 
 -- a put that is made, and one that is refused

@@ -1,7 +1,7 @@
 -- Books of listed rows keep the laws of books, and their rows change as the lists do.
 use Prim.Native.Nat.{ℕ}
-use mathlib.Core.Bool.{Bool, true, false, cond, not, _&&_}
-use mathlib.Core.List.{List, [], _∷_}
+use mathlib.Core.Bool.{Bool, true, false}
+use mathlib.Core.List.{List}
 use mathlib.Core.Path.{_≡_, refl, sym, ap, subst, _∙_, fun-ext}
 use native.Mathlib.Omega.{arith}
 use Rattle.std.specs.Options.{isSome, mapped}
@@ -12,12 +12,12 @@ use Rattle.std.proofs.shelf.Tests.{and-from, and-parts, both-ways, cases-bool, 
 use Rattle.format.specs.Values.{IdentifierValue, NameValue, MessageValue}
 use Rattle.format.specs.Same.{same-identifier, same-name}
 use Rattle.format.proofs.Same.{identifier-decides, name-decides}
-use Rattle.books.specs.Values.{RecordValue, minus, MarkValue, marking, OutgoingValue}
-use Rattle.books.specs.Same.{same-sign, same-mark, minus-of}
+use Rattle.books.specs.Values.{minus, MarkValue, marking}
+use Rattle.books.specs.Same.{same-mark, minus-of}
 use Rattle.books.specs.Counts.{Counts, none, Fewer}
 use Rattle.books.specs.Meaning.{record-key, record-value, mark-value, outgoing-key, outgoing-value}
 use Rattle.books.specs.Sides.{on}
-use Rattle.books.specs.Books.{Rows, Fits, BooksValue, No-row, Laws, updated, with-records, with-marks, with-outgoing}
+use Rattle.books.specs.Books.{Fits, No-row, Laws, updated, with-records, with-marks, with-outgoing}
 use Rattle.books.specs.Lists.{find, any}
 use Rattle.books.specs.Listed.{Lists, lists, rows-of, owing-of, blank-of, listed}
 use Rattle.books.specs.declared.rows.Record.{Record}
@@ -25,7 +25,7 @@ use Rattle.books.specs.declared.rows.Mark.{Mark}
 use Rattle.books.specs.declared.rows.Outgoing.{Outgoing}
 use Rattle.books.specs.declared.side.Side.{Side}
 use Rattle.books.proofs.Same.{sign-decides, mark-decides}
-use Rattle.books.proofs.Lists.{split, In, any-in, in-any}
+use Rattle.books.proofs.Lists.{split, any-in, in-any}
 use Rattle.books.proofs.Finds.{find-in, in-found}
 
 -- ---- options

@@ -1,23 +1,21 @@
 -- The order of outgoing rows is strict and total, and one row is the least.
 use Prim.Native.Nat.{ℕ, _<_}
-use mathlib.Core.Bool.{Bool, true, false, cond}
+use mathlib.Core.Bool.{true, false}
 use mathlib.Core.List.{List, [], _∷_}
 use mathlib.Core.Logic.{_⊎_, inl, inr}
 use mathlib.Core.Path.{_≡_, refl, sym, ap, _∙_}
 use native.Mathlib.Omega.{arith}
-use lib.Dec.{ltb}
 use Rattle.std.specs.Lexical.{Lex}
 use Rattle.std.specs.Orderings.{Ranked, isLt, thenBy, reversed}
 use Rattle.std.specs.declared.cmp.Ordering.{Ordering}
 use Rattle.std.specs.declared.cmp.Ordering.the-variants.{Less, Equal, Greater}
-use Rattle.std.specs.declared.option.Option.{Option}
 use Rattle.std.specs.declared.option.Option.the-variants.{Some, None}
 use Rattle.std.proofs.shelf.Tests.{both-ways, cases-bool}
 use Rattle.std.proofs.shelf.Ways.{tells}
-use Rattle.format.specs.Values.{IdentifierValue, NameValue}
+use Rattle.format.specs.Values.{IdentifierValue}
 use Rattle.books.proofs.Lists.{split}
-use Rattle.books.specs.Values.{OutgoingValue, EntryValue}
-use Rattle.books.specs.Order.{order-numbers, order-identifiers, order, before, Strict-order, Stands, Least, Least-is-one}
+use Rattle.books.specs.Values.{EntryValue}
+use Rattle.books.specs.Order.{order-numbers, order-identifiers, order, before, Strict-order, Least-is-one}
 
 -- what `cmp` answers
 pub numbers-ranked : (m n : ℕ) (o : Ordering) → Ranked o (m < n) (m ≡ n) (n < m) → o ≡ order-numbers m n

@@ -1,6 +1,6 @@
 -- The tests of `specs/Same` are true exactly where the values are equal.
 use Prim.Native.Nat.{ℕ}
-use mathlib.Core.Bool.{Bool, true, false}
+use mathlib.Core.Bool.{true, false}
 use mathlib.Core.Path.{_≡_, refl, ap}
 use native.Mathlib.Omega.{arith}
 use Rattle.std.specs.Orderings.{Decides}

@@ -1,5 +1,5 @@
 -- A change of one worker's books is that change of the two.
-use Prim.Native.Nat.{ℕ, _≤_}
+use Prim.Native.Nat.{_≤_}
 use mathlib.Core.Bool.{Bool, true, false, cond, not, _||_}
 use mathlib.Core.Path.{_≡_, refl, sym, ap, subst, _∙_, fun-ext}
 use native.Mathlib.Omega.{arith}
@@ -12,7 +12,7 @@ use Rattle.format.specs.Same.{same-identifier, same-name, first-is-even}
 use Rattle.format.proofs.Same.{identifier-decides, name-decides}
 use Rattle.books.specs.Same.{same-mark}
 use Rattle.books.specs.Counts.{Counts, none, Kind, a-record, a-mark, an-outgoing, more}
-use Rattle.books.specs.Books.{BooksValue, Rows, Fits, Operation, put-record, put-mark, put-outgoing, remove-record, remove-mark, remove-outgoing, kind, chain-of, puts, present, updated, with-records, with-marks, with-outgoing, apply, Takes, Gives, Places, Step, goes, Tried}
+use Rattle.books.specs.Books.{BooksValue, Rows, Fits, Operation, put-record, put-mark, put-outgoing, remove-record, remove-mark, remove-outgoing, kind, chain-of, puts, present, updated, with-records, with-marks, with-outgoing, apply, Takes, Gives, Places, Step, Tried}
 use Rattle.books.proofs.Same.{mark-decides}
 use Rattle.books.proofs.Lists.{split}
 use Rattle.split.specs.Joined.{joined}

@@ -1,6 +1,6 @@
 -- The least of two workers' rows.
-use mathlib.Core.Bool.{Bool, true, false, cond, not}
-use mathlib.Core.Path.{_≡_, refl, sym, ap, _∙_}
+use mathlib.Core.Bool.{Bool, cond}
+use mathlib.Core.Path.{_≡_, refl, sym, ap, subst, _∙_}
 use Rattle.std.specs.Options.{mapped}
 use Rattle.std.specs.declared.option.Option.{Option}
 use Rattle.std.specs.declared.option.Option.the-variants.{Some, None}
@@ -12,6 +12,7 @@ use Rattle.books.specs.Meaning.{entry-value}
 use Rattle.books.specs.Sides.{on}
 use Rattle.books.specs.Order.{before, Stands, Least, earlier}
 use Rattle.books.specs.declared.rows.Outgoing.{Outgoing}
+use Rattle.books.specs.declared.side.Side.{Side}
 use Rattle.books.specs.declared.side.Side.the-variants.{All, Even, Odd}
 use Rattle.books.proofs.Lists.{split}
 use Rattle.books.proofs.Orders.{stays-behind, behind-onward}
@@ -44,7 +45,7 @@ module _ (w v : NameValue → Option OutgoingValue) where
       (λ e. f (stands-first x (record { there = h .there; chosen = e })))
       (λ e. g (stands-second x (record { there = h .there; chosen = not-from-false _ e })))
 
-  pub least-both : (r s : Option Outgoing) → Least w (on Even) (mapped entry-value r) → Least v (on Odd) (mapped entry-value s) → Least both (on All) (mapped entry-value (earlier r s))
+  least-both : (r s : Option Outgoing) → Least w (on Even) (mapped entry-value r) → Least v (on Odd) (mapped entry-value s) → Least both (on All) (mapped entry-value (earlier r s))
   least-both None None h k = λ y d. by-side y d (h y) (k y)
   least-both None (Some y) h k = (any-stands (entry-value y) (second-stands (entry-value y) (k .0)), λ z d. by-side z d (λ b. absurd (h z b)) (k .1 z))
   least-both (Some x) None h k = (any-stands (entry-value x) (first-stands (entry-value x) (h .0)), λ z d. by-side z d (h .1 z) (λ b. absurd (k z b)))
@@ -52,3 +53,8 @@ module _ (w v : NameValue → Option OutgoingValue) where
       split (cases-bool (before (entry-value y) (entry-value x)))
       (λ e. rw e (any-stands (entry-value y) (second-stands (entry-value y) (k .0)), λ z d. by-side z d (λ b. stays-behind z (entry-value x) (entry-value y) e (h .1 z b)) (k .1 z)))
       (λ e. rw e (any-stands (entry-value x) (first-stands (entry-value x) (h .0)), λ z d. by-side z d (h .1 z) (λ b. behind-onward (entry-value x) (entry-value y) z (k .1 z b) e)))
+
+  pub least-all : (side : Side) (r s q : Option Outgoing) → side ≡ All → q ≡ earlier r s
+      → Least w (on Even) (mapped entry-value r) → Least v (on Odd) (mapped entry-value s) → Least both (on side) (mapped entry-value q)
+  least-all side r s q d e h k =
+      subst (λ t. Least both (on t) (mapped entry-value q)) (sym d) (subst (λ o. Least both (on All) (mapped entry-value o)) (sym e) (least-both r s h k))

@@ -1,14 +1,11 @@
 -- The meaning of two books side by side: the first's rows of chains whose first number is even, and the second's of the others.
 use mathlib.Core.Bool.{Bool, true, false, cond, not, _&&_}
-use mathlib.Core.Logic.{_⊎_, inl, inr}
 use mathlib.Core.Path.{_≡_, refl, sym, ap, _∙_}
-use Rattle.std.specs.declared.option.Option.{Option}
-use Rattle.std.specs.declared.option.Option.the-variants.{None}
-use Rattle.std.proofs.shelf.Tests.{and-from, and-parts, both-ways, not-true, not-from-false}
-use Rattle.format.specs.Values.{IdentifierValue, NameValue, MessageValue}
+use Rattle.std.proofs.shelf.Tests.{and-from, and-parts, not-true}
+use Rattle.format.specs.Values.{IdentifierValue, MessageValue}
 use Rattle.format.specs.Same.{first-is-even}
-use Rattle.books.specs.Values.{RecordValue, minus, MarkValue, marking, OutgoingValue}
-use Rattle.books.specs.Counts.{Counts, none, Fewer}
+use Rattle.books.specs.Values.{minus, marking}
+use Rattle.books.specs.Counts.{Counts, Fewer}
 use Rattle.books.specs.Sides.{on}
 use Rattle.books.specs.Books.{Rows, Fits, BooksValue, No-row, Laws}
 use Rattle.books.specs.declared.side.Side.{Side}

@@ -1,5 +1,4 @@
 //! Two workers' books as one.
-ghost use mathlib.Core.Path.{_≡_};
 ghost use Rattle.split.specs.Joined.{joined, joined-laws};
 use books::Books;
 use books::Mark;

@@ -4,7 +4,6 @@ use mathlib.Core.Bool.{Bool, true, false, cond, _||_}
 use mathlib.Core.List.{List}
 use mathlib.Core.Path.{_≡_, refl, sym, ap, subst, _∙_}
 use lib.Dec.{ltb}
-use Rattle.std.specs.Options.{isSome, mapped}
 use Rattle.std.specs.Orderings.{When}
 use Rattle.std.specs.declared.option.Option.the-variants.{Some, None}
 use Rattle.format.specs.Values.{IdentifierValue, NameValue}
@@ -13,8 +12,7 @@ use Rattle.books.specs.Values.{MarkValue}
 use Rattle.books.specs.Same.{same-mark}
 use Rattle.books.specs.Counts.{Counts, counts, more}
 use Rattle.books.specs.Meaning.{record-key, record-value, mark-value, outgoing-key, outgoing-value}
-use Rattle.books.specs.Books.{BooksValue, Operation, put-record, put-mark, put-outgoing, remove-record, remove-mark, remove-outgoing, kind, chain-of, puts, present, apply, Places, Step, goes, Tried}
-use Rattle.books.specs.Lists.{find}
+use Rattle.books.specs.Books.{Operation, put-record, put-mark, put-outgoing, remove-record, remove-mark, remove-outgoing, kind, chain-of, puts, present, apply, Places, Step, Tried}
 use Rattle.books.specs.Listed.{Lists, lists, rows-of, listed}
 use Rattle.books.specs.declared.rows.Record.{Record}
 use Rattle.books.specs.declared.rows.Mark.{Mark}

@@ -9,9 +9,6 @@ use Rattle.books.specs.Meaning.{record-row, mark-value, entry-value}
 use Rattle.books.specs.Counts.{Counts, counts}
 use Rattle.books.specs.Books.{BooksValue, Laws}
 use Rattle.books.specs.Listed.{Lists, lists, listed}
-use Rattle.books.specs.declared.rows.Record.{Record}
-use Rattle.books.specs.declared.rows.Mark.{Mark}
-use Rattle.books.specs.declared.rows.Outgoing.{Outgoing}
 use Rattle.books.proofs.Listed.{listed-laws}
 use Rattle.tables.specs.Limits.{max-rows}
 use Rattle.tables.specs.Held.{memory, usable, held, room, past, cleared}

@@ -1,6 +1,6 @@
 //! Looking for a row in a table, putting and removing one.
-ghost use Prim.Native.Nat.{_<_, _≤_};
-ghost use lib.ListN.{drop, length, replicate};
+ghost use Prim.Native.Nat.{_-_, _<_, _≤_};
+ghost use lib.ListN.{drop, getD, length, replicate};
 ghost use mathlib.Core.List.{_++_};
 ghost use mathlib.Core.Path.{_≡_};
 ghost use Rattle.std.specs.Options.{Cases as BySome};
@@ -14,7 +14,7 @@ ghost use Rattle.books.specs.Order.{earliest};
 ghost use Rattle.books.specs.Same.{same-mark};
 ghost use Rattle.books.specs.Sides.{on};
 ghost use Rattle.tables.specs.Dense.{Put, Removed};
-ghost use Rattle.tables.specs.Held.{Sound, cleared, held, memory, past, room};
+ghost use Rattle.tables.specs.Held.{Sound, cleared, held, memory, past, room, usable};
 use super::MAX_ROWS;
 use super::Table;
 use books::Keyed;
@@ -95,6 +95,30 @@ impl<'a, R: Keyed + Copy> Table<'a, R> {
         }
     }
 
+    // Where a new row goes: behind the others.
+    fn free_place(&self) -> Option<usize>
+        requires { ⌜ Sound (R·Keyed .named) (R·Keyed .same) (now self) ⌝ }
+        ensures { λ r. ⌜ BySome r (usable (memory (now (self .entry))) ≤ now (self .entry) .count) (λ n. (n ≡ now (self .entry) .count) × (n < usable (memory (now (self .entry))))) ⌝ }
+    {
+        if self.count < self.rows.len().min(MAX_ROWS) {
+            Some(self.count)
+        } else {
+            None
+        }
+    }
+
+    // The last row, which is then no more held.
+    fn take_last(&mut self) -> R
+        requires { ⌜ Sound (R·Keyed .named) (R·Keyed .same) (now self) ⌝ ∗ ⌜ 0 < now self .count ⌝ }
+        ensures row { λ r. ⌜ r ≡ getD (memory (now (self .entry))) (now (self .entry) .count - 1) r ⌝ }
+        ensures memory { λ _. ⌜ memory (now (self .exit)) ≡ memory (now (self .entry)) ⌝ }
+        ensures count { λ _. ⌜ now (self .exit) .count ≡ now (self .entry) .count - 1 ⌝ }
+    {
+        let n = self.count - 1;
+        self.count = n;
+        self.rows[n]
+    }
+
     // Puts a row in the place of the one with its key, or else behind the others; false where
     // there is no room.
     pub(crate) fn put(&mut self, row: R) -> bool
@@ -109,17 +133,14 @@ impl<'a, R: Keyed + Copy> Table<'a, R> {
                 self.rows[i] = row;
                 true
             }
-            None => {
-                let n = self.count;
-                let size = self.rows.len().min(MAX_ROWS);
-                if n < size {
+            None => match self.free_place() {
+                Some(n) => {
                     self.rows[n] = row;
                     self.count = n + 1;
                     true
-                } else {
-                    false
                 }
-            }
+                None => false,
+            },
         }
     }
 
@@ -131,10 +152,8 @@ impl<'a, R: Keyed + Copy> Table<'a, R> {
         ensures rest { λ _. ⌜ past (now (self .exit)) ≡ past (now (self .entry)) ⌝ }
     {
         if let Some(i) = self.place(key) {
-            let n = self.count - 1;
-            let last = self.rows[n];
+            let last = self.take_last();
             self.rows[i] = last;
-            self.count = n;
         }
     }
 }
