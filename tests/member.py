@@ -5,11 +5,19 @@ The answers come from the rules of docs/FORMATS.md and docs/REFUSALS.md as they 
 not from the program. Run from any folder; it writes crates/member/stdin and crates/member/stdout.
 """
 import hashlib
+import hmac
 import pathlib
 
 from damaged import OPERANDS, WIDTHS, answer, identifier, number, numbers_of, with_length
 
 FIRST = "6cc473f0b7832314170f9022928392d354afac9be4722d622ea58677e51e7d5d"
+
+SECRET = "07" * 32
+
+
+def tag(secret, digest):
+    return hmac.new(bytes.fromhex(secret), bytes.fromhex(digest), "sha256").hexdigest()
+
 
 LINES = f"""\
 # A shift on the machine of chain 2.7: three rings in its first block, sent on to the yard's chain 1.
@@ -33,6 +41,25 @@ ring 1 0 - 1 twelve
 compose 1 0 0123
 request seal 00
 request list 0
+tally 1 one
+stock cast
+stock burn:5
+tag 00000009 0707 - 00
+tag 00000009 {SECRET} - 0
+
+# Tallies: of rings, with one too far off, and of a stock, with more taken than is there.
+tally -12 0 12
+tally -500 500 501 0
+tally
+stock cast:40 send:10 delivered:4 ordered:30 order:5
+stock cast:3 send:4 cast:1
+stock cast:1001
+stock cast:1000 delivered:0
+
+# Tags: the right one, of another secret, and one byte short.
+tag 00000009 {SECRET} {FIRST} {tag(SECRET, FIRST)}
+tag 00000009 {FIRST} {FIRST} {tag(SECRET, FIRST)}
+tag 00000009 {SECRET} {FIRST} {tag(SECRET, FIRST)[:62]}
 
 # Frames.
 """
@@ -44,6 +71,7 @@ FAULTS = {
 }
 NO_COMMAND = "a command is open:ID:KEY, change:KEY, close, execute:CODE:ARGUMENT:ID or receive:ID:HEIGHT:INDEX:CODE:VALUE"
 NO_IDENTIFIER = "an identifier is one to four numbers from 0 to 65535, joined by dots"
+NO_STEP = "a step is cast:N, send:N, order:N, delivered:N or ordered:N"
 NO_FRAME = "a frame is in hexadecimal, two digits a byte, or a file's name behind @"
 
 
@@ -138,11 +166,70 @@ def frame_lines(kind, scheme, frame):
     return lines
 
 
+def signed_number(text):
+    try:
+        return int(text)
+    except ValueError:
+        raise NotUnderstood("a number is missing, or out of its range") from None
+
+
+def ring_lines(offsets):
+    rings = left = 0
+    refused = []
+    for place, value in enumerate(offsets):
+        if not -500 <= value <= 500:
+            refused = [f"  record {place} is refused, number 2: the offset is outside -500 to 500 mm"]
+            break
+        rings, left = rings + 1, left + (value < 0)
+    return [f"Tally of ring records: rings {rings}, left of the axis {left}"] + refused
+
+
+def stock_lines(steps):
+    here = arrived = 0
+    refused = []
+    for place, (word, n) in enumerate(steps):
+        taken = word in ("send", "ordered")
+        if not 1 <= n <= 1000:
+            refused = [f"  step {place} is refused, number 2: the number of segments is outside 1 to 1000"]
+            break
+        if taken and here < n:
+            refused = [f"  step {place} is refused, number 3: fewer segments are here than are taken"]
+            break
+        here += {"cast": n, "delivered": n, "order": 0}.get(word, -n)
+        arrived += n if word == "delivered" else 0
+    return [f"Tally of the stock: segments here {here}, arrived {arrived}"] + refused
+
+
+def parse_step(text):
+    word, colon, n = text.partition(":")
+    if not colon:
+        raise NotUnderstood(NO_STEP)
+    n = signed_number(n)
+    if word not in ("cast", "send", "order", "delivered", "ordered"):
+        raise NotUnderstood(NO_STEP)
+    return word, n
+
+
+def tag_lines(key, secret, digest, seal):
+    if len(secret) != 64:
+        raise NotUnderstood("a secret is 64 hexadecimal digits in lower case")
+    over = parse_digest(digest).hex()
+    if len(seal) % 2:
+        raise NotUnderstood("a seal is in hexadecimal, two digits a byte")
+    return [f"The tag of key {key} over digest {over} is {'right' if seal == tag(secret, over) else 'wrong'}"]
+
+
 def answer_lines(words):
     kind = words[0]
-    if kind not in ("ring", "compose", "request", "certificate"):
-        raise NotUnderstood("the first word is none of ring, compose, request and certificate")
-    if len(words) < {"ring": 5, "compose": 4}.get(kind, 3):
+    if kind not in ("ring", "compose", "request", "certificate", "tally", "stock", "tag"):
+        raise NotUnderstood("the first word is none of ring, compose, request, certificate, tally, stock and tag")
+    if kind == "tally":
+        return ring_lines([signed_number(word) for word in words[1:]])
+    if kind == "stock":
+        return stock_lines([parse_step(word) for word in words[1:]])
+    if kind == "tag" and len(words) == 5:
+        return tag_lines(*words[1:])
+    if len(words) < {"ring": 5, "compose": 4, "tag": 5}.get(kind, 3):
         raise NotUnderstood("a word is missing")
     if kind in ("request", "certificate"):
         if words[1] not in WIDTHS:
@@ -156,10 +243,7 @@ def answer_lines(words):
     if kind == "compose":
         commands = [parse_command(word) for word in words[4:]]
         return [f"Block {height} of chain {words[1]}, commands: {len(commands)}"] + block_lines(chain, height, previous, commands)
-    try:
-        offsets = [int(word) for word in words[5:]]
-    except ValueError:
-        raise NotUnderstood("a number is missing, or out of its range") from None
+    offsets = [signed_number(word) for word in words[5:]]
     commands = [parse_command(f"execute:1:{value}:{dotted(target)}") for value in offsets]
     first = f"Ring records of chain {words[1]}, block {height}, sent on to chain {words[4]}:"
     return [first] + [f"  ring {offset(value)}" for value in offsets] + block_lines(chain, height, previous, commands)

@@ -14,6 +14,7 @@ use crate::show::Offset;
 use crate::show::OffsetDisplay;
 use crate::show::Words;
 use crate::show::WordsDisplay;
+use crate::tally;
 use format::Block;
 use format::Command;
 use format::ComposeFault;
@@ -23,6 +24,10 @@ use format::compose;
 use format::layout::MAX_BLOCK_LEN;
 use hex::Hex;
 use hex::HexDisplay;
+use seals::Seals;
+use seals::Secret;
+use seals::Tags;
+use seals::TagsSeals;
 use std::error::AnyError;
 
 /// The length of a block in a buffer, and its digest.
@@ -91,18 +96,54 @@ fn show_commands(rt: &LibcRuntime, draft: &Draft) -> Result<(), AnyError> {
     show_block(rt, draft)
 }
 
+// Whether the scheme holds the tag, with this one secret in its book.
+fn show_tag(
+    rt: &LibcRuntime,
+    secret: Secret,
+    digest: &Digest,
+    seal: &[u8],
+) -> Result<(), AnyError> {
+    let key = secret.key.0;
+    let book = [secret];
+    let tags = Tags { book: &book };
+    let word = if tags.verify(secret.key, digest, seal) {
+        "right"
+    } else {
+        "wrong"
+    };
+    println!(
+        rt,
+        "The tag of key {key:08x} over digest {} is {word}",
+        Hex(&digest.bytes)
+    )?;
+    Ok(())
+}
+
 /// Answers the request in the line of that number.
 pub(crate) fn answer(rt: &LibcRuntime, number: u64, line: &str) -> Result<(), AnyError> {
     match read_line(rt, line) {
         Ok(Request::Nothing) => Ok(()),
         Ok(Request::Rings { draft, target }) => show_rings(rt, &draft, &target),
         Ok(Request::Compose { draft }) => show_commands(rt, &draft),
-        Ok(Request::ShowRequest { scheme, frame }) => frames::request(rt, scheme, frame.as_slice()),
-        Ok(Request::ShowCertificate { scheme, frame }) => frames::certificate(
+        Ok(Request::ShowRequest(framed)) => frames::request(
             rt,
-            scheme,
-            frame.as_slice(),
+            framed.scheme,
+            framed.frame.as_slice(),
         ),
+        Ok(Request::ShowCertificate(framed)) => frames::certificate(
+            rt,
+            framed.scheme,
+            framed.frame.as_slice(),
+        ),
+        Ok(Request::TallyRings { steps }) => tally::rings(rt, steps.as_slice()),
+        Ok(Request::TallyStock { steps }) => tally::stock(rt, steps.as_slice()),
+        Ok(
+            Request::CheckTag {
+                secret,
+                digest,
+                seal,
+            },
+        ) => show_tag(rt, secret, &digest, seal.as_slice()),
         Err(RequestFault::NotUnderstood(fault)) => {
             println!(rt, "error in line {number}: {fault}")?;
             Ok(())

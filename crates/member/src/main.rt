@@ -4,6 +4,7 @@ mod frames;
 mod parse;
 mod request;
 mod show;
+mod tally;
 
 use std::env;
 use std::error::AnyError;

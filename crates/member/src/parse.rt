@@ -1,6 +1,7 @@
 //! Values from text.
 ghost use Prim.Native.Nat.{_<_};
 ghost use Rattle.std.specs.Options.{Cases};
+use crate::tally::Asked;
 use format::Command;
 use format::Digest;
 use format::Height;
@@ -10,6 +11,7 @@ use format::Message;
 use format::Name;
 use format::layout::DIGEST_LEN;
 use format::layout::MAX_DEPTH;
+use seals::SECRET_LEN;
 use std::fmt;
 
 /// Why a text is not understood.
@@ -26,6 +28,9 @@ pub enum ParseFault {
     Scheme,
     Frame,
     File,
+    Step,
+    Secret,
+    Seal,
 }
 
 pub impl fmt::Display for ParseFault as ParseFaultDisplay {
@@ -33,7 +38,7 @@ pub impl fmt::Display for ParseFault as ParseFaultDisplay {
         match self {
             ParseFault::Word => write!(
                 f,
-                "the first word is none of ring, compose, request and certificate"
+                "the first word is none of ring, compose, request, certificate, tally, stock and tag"
             ),
             ParseFault::Scheme => write!(f, "a scheme of seals is tag or list"),
             ParseFault::Frame => write!(
@@ -57,6 +62,12 @@ pub impl fmt::Display for ParseFault as ParseFaultDisplay {
                 "a command is open:ID:KEY, change:KEY, close, execute:CODE:ARGUMENT:ID or receive:ID:HEIGHT:INDEX:CODE:VALUE"
             ),
             ParseFault::Missing => write!(f, "a word is missing"),
+            ParseFault::Step => write!(
+                f,
+                "a step is cast:N, send:N, order:N, delivered:N or ordered:N"
+            ),
+            ParseFault::Secret => write!(f, "a secret is 64 hexadecimal digits in lower case"),
+            ParseFault::Seal => write!(f, "a seal is in hexadecimal, two digits a byte"),
         }
     }
 }
@@ -101,26 +112,40 @@ fn digit(byte: u8) -> Option<u8>
     }
 }
 
-/// A digest in hexadecimal; `-` is the zero digest.
-pub(crate) fn digest(text: &str) -> Result<Digest, ParseFault> {
+// As many bytes as a digest has, in hexadecimal.
+fn digest_bytes(text: &str) -> Option<[u8; DIGEST_LEN]> {
     let digits = text.as_bytes();
     let mut bytes = [0; DIGEST_LEN];
-    if digits == b"-" {
-        return Ok(Digest { bytes });
-    }
     if digits.len() != 2 * DIGEST_LEN {
-        return Err(ParseFault::Digest);
+        return None;
     }
     for i in 0..DIGEST_LEN {
-        let Some(high) = digit(digits[2 * i]) else {
-            return Err(ParseFault::Digest);
-        };
-        let Some(low) = digit(digits[2 * i + 1]) else {
-            return Err(ParseFault::Digest);
-        };
+        let high = digit(digits[2 * i])?;
+        let low = digit(digits[2 * i + 1])?;
         bytes[i] = high * 16 + low;
     }
-    Ok(Digest { bytes })
+    Some(bytes)
+}
+
+/// A digest in hexadecimal; `-` is the zero digest.
+pub(crate) fn digest(text: &str) -> Result<Digest, ParseFault> {
+    if text == "-" {
+        return Ok(Digest {
+            bytes: [0; DIGEST_LEN],
+        });
+    }
+    match digest_bytes(text) {
+        Some(bytes) => Ok(Digest { bytes }),
+        None => Err(ParseFault::Digest),
+    }
+}
+
+/// A secret in hexadecimal.
+pub(crate) fn secret(text: &str) -> Result<[u8; SECRET_LEN], ParseFault> {
+    match digest_bytes(text) {
+        Some(bytes) => Ok(bytes),
+        None => Err(ParseFault::Secret),
+    }
 }
 
 /// A key in hexadecimal.
@@ -150,6 +175,22 @@ pub(crate) fn signed(text: &str) -> Result<i64, ParseFault> {
     match text.parse() {
         Ok(number) => Ok(number),
         Err(_) => Err(ParseFault::Number),
+    }
+}
+
+/// A step of the segment stock, as `cast:5`.
+pub(crate) fn stock_step(text: &str) -> Result<Asked, ParseFault> {
+    let Some((word, number)) = text.split_once(':') else {
+        return Err(ParseFault::Step);
+    };
+    let value = signed(number)?;
+    match word {
+        "cast" => Ok(Asked::Operation { code: 1, value }),
+        "send" => Ok(Asked::Operation { code: 2, value }),
+        "order" => Ok(Asked::Operation { code: 3, value }),
+        "delivered" => Ok(Asked::Message { code: 1, value }),
+        "ordered" => Ok(Asked::Message { code: 2, value }),
+        _ => Err(ParseFault::Step),
     }
 }
 

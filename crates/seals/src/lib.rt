@@ -12,6 +12,7 @@ mod tags;
 pub use lists::Checked;
 pub use lists::CheckedList;
 pub use lists::CheckedListSeals;
+pub use tags::SECRET_LEN;
 pub use tags::Secret;
 pub use tags::Tags;
 pub use tags::TagsSeals;
