@@ -1,4 +1,4 @@
-//! Rows with a key, and the one search over them.
+//! Rows with a key, and the one function that looks for a row by its key.
 ghost use mathlib.Core.Bool.{Bool};
 ghost use mathlib.Core.Path.{_≡_};
 ghost use Rattle.std.specs.Options.{Cases as BySome};
@@ -41,7 +41,7 @@ pub trait Keyed {
 }
 
 /// The place of the first row that has the key.
-pub fn search<R: Keyed>(rows: &[R], key: &R::Key) -> Option<usize>
+pub fn locate<R: Keyed>(rows: &[R], key: &R::Key) -> Option<usize>
     ensures { λ r. ⌜ BySome r (Absent (R·Keyed .named) (R·Keyed .same) (now (rows .entry)) (R·Keyed .label (now (key .entry)))) (λ i. Present (R·Keyed .named) (R·Keyed .same) (now (rows .entry)) (R·Keyed .label (now (key .entry))) i) ⌝ }
 {
     for (i, row) in rows.iter().enumerate() {

@@ -15,7 +15,7 @@ pub use equality::MarkPartialEq;
 pub use equality::SignPartialEq;
 pub use keyed::Keyed;
 pub use keyed::any_on_side;
-pub use keyed::search;
+pub use keyed::locate;
 pub use keys::MarkKeyed;
 pub use keys::OutgoingKeyed;
 pub use keys::RecordKeyed;

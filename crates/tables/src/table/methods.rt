@@ -24,7 +24,7 @@ use books::Side;
 use books::any_minus;
 use books::any_on_side;
 use books::least;
-use books::search;
+use books::locate;
 use format::Identifier;
 
 // Writes a blank row over each of the first rows.
@@ -78,7 +78,7 @@ impl<'a, R: Keyed + Copy> Table<'a, R> {
         ensures { λ r. ⌜ BySome r (Absent (R·Keyed .named) (R·Keyed .same) (held (now (self .entry))) (R·Keyed .label (now (key .entry)))) (λ i. (i < now (self .entry) .count) × Present (R·Keyed .named) (R·Keyed .same) (held (now (self .entry))) (R·Keyed .label (now (key .entry))) i) ⌝ }
     {
         let n = self.count;
-        search(&self.rows[0..n], key)
+        locate(&self.rows[0..n], key)
     }
 
     pub(crate) fn find(&self, key: &R::Key) -> Option<R>
