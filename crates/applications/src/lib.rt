@@ -1,4 +1,5 @@
 //! Applications: what a chain's two numbers mean, and how operations and messages change them.
+#![tactic(auto)]
 
 mod application;
 mod ring;

@@ -1,4 +1,5 @@
 //! Running the blocks of requests and certificates.
+#![tactic(auto)]
 
 mod draft;
 mod opening;

@@ -1,4 +1,5 @@
 //! Books: the store of records, marks and outgoing rows that a validator works on, by its meaning.
+#![tactic(auto)]
 
 mod blanks;
 mod books;

@@ -1,4 +1,5 @@
 //! The calls on books of any make: starting them, delivering outgoing rows, and which row waits.
+#![tactic(auto)]
 
 mod delivering;
 mod next_row;

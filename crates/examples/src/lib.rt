@@ -1,4 +1,5 @@
 //! A few examples of the layers at work, as tests.
+#![tactic(auto)]
 
 #[cfg(test)]
 mod tests {

@@ -1,4 +1,5 @@
 //! The values of ring records' blocks, and the bytes that they are written in.
+#![tactic(auto)]
 
 mod composing;
 mod equality;

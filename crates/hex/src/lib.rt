@@ -1,4 +1,5 @@
 //! Bytes as hexadecimal text, two digits each.
+#![tactic(auto)]
 ghost use Rattle.std.specs.Prelude.{◌≡◌, ◌<◌, ◌≤◌, MatchResult};
 ghost use Rattle.std.specs.Char.{digit_value};
 ghost use Rattle.hex.specs.declared.HexError.TheVariants.{NoDigit, NoMemory};

@@ -1,4 +1,5 @@
 //! Books in a lent memory of bytes, a row to a slot.
+#![tactic(auto)]
 
 mod image;
 mod memory;

@@ -1,4 +1,5 @@
 //! Reading frames, blocks and commands. Nothing is copied: what is read comes back as parts of the caller's bytes.
+#![tactic(auto)]
 
 mod block;
 mod certificate;

@@ -1,4 +1,5 @@
 //! Slots: the bytes of a row of any kind, and back.
+#![tactic(auto)]
 
 mod decoding;
 mod encoding;

@@ -1,4 +1,5 @@
 //! A store as lines of text, one for each row, and an example of each make of books.
+#![tactic(auto)]
 
 mod example;
 mod lines;

@@ -1,4 +1,5 @@
 //! Books in three tables of rows, each in a lent slice.
+#![tactic(auto)]
 
 mod table;
 mod tables;
