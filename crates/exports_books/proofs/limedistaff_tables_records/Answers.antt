@@ -8,4 +8,4 @@ use Rattle.exports_books.proofs.limedistaff_tables_records.Goals as goal
 pub returns : goal.returns
 returns c =
     let full = tables_value c.fill.new.books in
-    record { full = full; filled = subst (λ m. Filled record_put m max_rows full) c.new-books.ensures.meaning c.fill.ensures; sum = c.sum-found.ensures }
+    record { full = full; filled = subst (λ m. Filled record_put m max_rows full) c.new-books.ensures.meaning c.fill.ensures; sum = c.sum_found.ensures }

@@ -34,48 +34,48 @@ handed_on (Err e) P Q x h q = subst Q (sym h) q
 
 pub loop-pair-preserved : goal.loop-pair-preserved
 loop-pair-preserved c = (
-  one_more c.as-chunks.result.0.now c.loop-pair.pair-index c.in-ok-high.high c.in-ok-low.low
-      (vec_items c.push.new.self) (omega arith) c.in-ok-high.ensures.1 c.in-ok-low.ensures.1
-      (pushed {r = c.push.result} ((16 * c.in-ok-high.high + c.in-ok-low.low) ∷ []) c.loop-pair.invariant.0 c.in-ok-push.was c.push.ensures.items),
-  below_more (DigitsOf c.as-chunks.result.0.now) c.loop-pair.pair-index c.loop-pair.invariant.1
-      (below c.in-ok-high.high (get_or (get_or c.as-chunks.result.0.now c.loop-pair.pair-index []) 0 0) c.in-ok-high.ensures, below c.in-ok-low.low (get_or (get_or c.as-chunks.result.0.now c.loop-pair.pair-index []) 1 0) c.in-ok-low.ensures),
+  one_more c.as_chunks.result.0.now c.loop-pair.pair-index c.in_ok-high.high c.in_ok-low.low
+      (vec_items c.push.new.self) (omega arith) c.in_ok-high.ensures.1 c.in_ok-low.ensures.1
+      (pushed {r = c.push.result} ((16 * c.in_ok-high.high + c.in_ok-low.low) ∷ []) c.loop-pair.invariant.0 c.in_ok-push.was c.push.ensures.items),
+  below_more (DigitsOf c.as_chunks.result.0.now) c.loop-pair.pair-index c.loop-pair.invariant.1
+      (below c.in_ok-high.high (get_or (get_or c.as_chunks.result.0.now c.loop-pair.pair-index []) 0 0) c.in_ok-high.ensures, below c.in_ok-low.low (get_or (get_or c.as_chunks.result.0.now c.loop-pair.pair-index []) 1 0) c.in_ok-low.ensures),
 )
 
-pub returns-in-err-high : goal.returns-in-err-high
-returns-in-err-high c =
+pub returns-in_err-high : goal.returns-in_err-high
+returns-in_err-high c =
     let text = c.args.text.now in
-    let cut = c.as-chunks.ensures.front ∙ ap (λ t. first_chunks 2 (length t / 2) t) c.as-bytes.ensures.value in
-    let o = c.in-err-high.ensures in
-    handed_on c.from-residual.result _ (RefusedFor text) c.in-err-high.field-0.0 c.from-residual.ensures.1
+    let cut = c.as_chunks.ensures.front ∙ ap (λ t. first_chunks 2 (length t / 2) t) c.as_bytes.ensures.value in
+    let o = c.in_err-high.ensures in
+    handed_on c.from-residual.result _ (RefusedFor text) c.in_err-high.field-0.0 c.from-residual.ensures.1
     (subst (RefusedFor text) (sym o.0) (
-      in_pairs text _ _ c.as-bytes.ensures.value c.if-rest-gt0.false c.as-chunks.ensures.back_len,
-      other_in_pair text c.as-chunks.result.0.now cut c.loop-pair.pair-index 0 (in_front text _ _ _ c.as-bytes.ensures.value c.as-chunks.ensures.front-len c.loop-pair-test.true) (omega arith) o.1,
+      in_pairs text _ _ c.as_bytes.ensures.value c.if-rest-gt0.false c.as_chunks.ensures.back_len,
+      other_in_pair text c.as_chunks.result.0.now cut c.loop-pair.pair-index 0 (in_front text _ _ _ c.as_bytes.ensures.value c.as_chunks.ensures.front-len c.loop-pair-test.true) (omega arith) o.1,
     ))
 
-pub returns-in-err-low : goal.returns-in-err-low
-returns-in-err-low c =
+pub returns-in_err-low : goal.returns-in_err-low
+returns-in_err-low c =
     let text = c.args.text.now in
-    let cut = c.as-chunks.ensures.front ∙ ap (λ t. first_chunks 2 (length t / 2) t) c.as-bytes.ensures.value in
-    let o = c.in-err-low.ensures in
-    handed_on c.from-residual-in-err-low.result _ (RefusedFor text) c.in-err-low.field-0.0 c.from-residual-in-err-low.ensures.1
+    let cut = c.as_chunks.ensures.front ∙ ap (λ t. first_chunks 2 (length t / 2) t) c.as_bytes.ensures.value in
+    let o = c.in_err-low.ensures in
+    handed_on c.from-residual-in_err-low.result _ (RefusedFor text) c.in_err-low.field-0.0 c.from-residual-in_err-low.ensures.1
     (subst (RefusedFor text) (sym o.0) (
-      in_pairs text _ _ c.as-bytes.ensures.value c.if-rest-gt0.false c.as-chunks.ensures.back_len,
-      other_in_pair text c.as-chunks.result.0.now cut c.loop-pair.pair-index 1 (in_front text _ _ _ c.as-bytes.ensures.value c.as-chunks.ensures.front-len c.loop-pair-test.true) (omega arith) o.1,
+      in_pairs text _ _ c.as_bytes.ensures.value c.if-rest-gt0.false c.as_chunks.ensures.back_len,
+      other_in_pair text c.as_chunks.result.0.now cut c.loop-pair.pair-index 1 (in_front text _ _ _ c.as_bytes.ensures.value c.as_chunks.ensures.front-len c.loop-pair-test.true) (omega arith) o.1,
     ))
 
-pub returns-in-err-push : goal.returns-in-err-push
-returns-in-err-push c =
+pub returns-in_err-push : goal.returns-in_err-push
+returns-in_err-push c =
     let text = c.args.text.now in
-    handed_on c.from-residual-in-err-push.result _ (RefusedFor text) NoMemory c.from-residual-in-err-push.ensures.1
-    (in_pairs text _ _ c.as-bytes.ensures.value c.if-rest-gt0.false c.as-chunks.ensures.back_len)
+    handed_on c.from-residual-in_err-push.result _ (RefusedFor text) NoMemory c.from-residual-in_err-push.ensures.1
+    (in_pairs text _ _ c.as_bytes.ensures.value c.if-rest-gt0.false c.as_chunks.ensures.back_len)
 
 pub returns : goal.returns
 returns c =
     let text = c.args.text.now in
-    let cut = c.as-chunks.ensures.front ∙ ap (λ t. first_chunks 2 (length t / 2) t) c.as-bytes.ensures.value in
-    let even = in_pairs text _ _ c.as-bytes.ensures.value c.if-rest-gt0.false c.as-chunks.ensures.back_len in
+    let cut = c.as_chunks.ensures.front ∙ ap (λ t. first_chunks 2 (length t / 2) t) c.as_bytes.ensures.value in
+    let even = in_pairs text _ _ c.as_bytes.ensures.value c.if-rest-gt0.false c.as_chunks.ensures.back_len in
     record {
       paired = even;
-      digits = pairs_digits text c.as-chunks.result.0.now cut even (λ p h. c.loop-pair.invariant.1 p (omega (arith, h, c.loop-pair-test.false, c.as-chunks.ensures.front-len, ap (λ t. length t / 2) c.as-bytes.ensures.value)));
-      bytes_are = c.loop-pair.invariant.0 ∙ ap (map byte_of) (take_all c.loop-pair.pair-index c.as-chunks.result.0.now (omega arith) ∙ cut);
+      digits = pairs_digits text c.as_chunks.result.0.now cut even (λ p h. c.loop-pair.invariant.1 p (omega (arith, h, c.loop-pair-test.false, c.as_chunks.ensures.front-len, ap (λ t. length t / 2) c.as_bytes.ensures.value)));
+      bytes_are = c.loop-pair.invariant.0 ∙ ap (map byte_of) (take_all c.loop-pair.pair-index c.as_chunks.result.0.now (omega arith) ∙ cut);
     }

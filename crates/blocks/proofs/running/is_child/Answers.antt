@@ -4,12 +4,12 @@ use Rattle.protocol.specs.Execution.{child_allowed}
 use Rattle.blocks.proofs.Children.{too_deep, other_depth, other_height, same_front}
 use Rattle.blocks.proofs.running.is_child.Goals as goal
 
-pub returns-then-depth-ge-MAX-DEPTH : goal.returns-then-depth-ge-MAX-DEPTH
-returns-then-depth-ge-MAX-DEPTH c =
+pub returns-then-depth-ge-MAX_DEPTH : goal.returns-then-depth-ge-MAX_DEPTH
+returns-then-depth-ge-MAX_DEPTH c =
     let h = c.args.height.0 in
     let parent = c.numbers-parent in
     let child = c.numbers-numbers in
-    too_deep parent.result.now child.result.now h c.if-depth-ge-MAX-DEPTH.true ∙ (λ i. child_allowed (parent.ensures i) h (child.ensures i))
+    too_deep parent.result.now child.result.now h c.if-depth-ge-MAX_DEPTH.true ∙ (λ i. child_allowed (parent.ensures i) h (child.ensures i))
 
 pub returns-then-numbers-depth : goal.returns-then-numbers-depth
 returns-then-numbers-depth c =
@@ -31,5 +31,5 @@ returns c =
     let h = c.args.height.0 in
     let parent = c.numbers-parent in
     let child = c.numbers-numbers in
-    same_front parent.result.now child.result.now h c.if-numbers-depth.false c.eq.result (slice_eq-Decides _ _ _ c.eq.ensures) c.if-numbers-depth-2.false c.if-depth-ge-MAX-DEPTH.false
+    same_front parent.result.now child.result.now h c.if-numbers-depth.false c.eq.result (slice_eq-Decides _ _ _ c.eq.ensures) c.if-numbers-depth-2.false c.if-depth-ge-MAX_DEPTH.false
     ∙ (λ i. child_allowed (parent.ensures i) h (child.ensures i))

@@ -35,10 +35,10 @@ loop-part-init g c =
       omega arith,
     )
 
-pub run-part-requires : goal.run-part-requires
-run-part-requires g c =
+pub run_part-requires : goal.run_part-requires
+run_part-requires g c =
     let v = cursor_value c.loop-part.cursor in
-    let w = cursor_value c.next-part.new.cursor in
+    let w = cursor_value c.next_part.new.cursor in
     let part = c.in-Some.part in
     let moved : Handed v w part = c.in-Some.ensures in
     let inv = c.loop-part.invariant in
@@ -53,12 +53,12 @@ returns-in-Err g c =
     let A = application g.A.Application.start_a g.A.Application.start_b g.A.Application.operation g.A.Application.message in
     let M = (g.B.Books.meaning c.args.books.now).rows.marked in
     let k = c.loop-part.place in
-    let d = draft_value c.run-part.new.draft in
+    let d = draft_value c.run_part.new.draft in
     let inv = c.loop-part.invariant in
     record {
       value = run_refused C A M (record_value c.args.row.now).chain c.args.block.bytes.now (head_value c.args.head.now) k (draft_value c.loop-part.draft)
-          (cursor_value c.loop-part.cursor) (cursor_value c.next-part.new.cursor) c.in-Some.part inv.0.0 c.in-Some.ensures inv.0.1 inv.0.2
-          (step_answer k c.run-part.result d) c.run-part.ensures.value (command_refusal k c.in-Err.fault) (ap (λ r. step_answer k r d) c.in-Err.is);
+          (cursor_value c.loop-part.cursor) (cursor_value c.next_part.new.cursor) c.in-Some.part inv.0.0 c.in-Some.ensures inv.0.1 inv.0.2
+          (step_answer k c.run_part.result d) c.run_part.ensures.value (command_refusal k c.in-Err.fault) (ap (λ r. step_answer k r d) c.in-Err.is);
       within = tt;
     }
 
@@ -68,9 +68,9 @@ loop-part-preserved g c =
     let A = application g.A.Application.start_a g.A.Application.start_b g.A.Application.operation g.A.Application.message in
     let M = (g.B.Books.meaning c.args.books.now).rows.marked in
     let k = c.loop-part.place in
-    let d = draft_value c.run-part.new.draft in
+    let d = draft_value c.run_part.new.draft in
     let v = cursor_value c.loop-part.cursor in
-    let w = cursor_value c.next-part.new.cursor in
+    let w = cursor_value c.next_part.new.cursor in
     let inv = c.loop-part.invariant in
     let moved : Handed v w c.in-Some.part = c.in-Some.ensures in
     let more : 0 < v.left = moved.more in
@@ -79,9 +79,9 @@ loop-part-preserved g c =
     let next_place : w.place ≡ v.place + 1 = ap (λ (z : CursorValue). z.place) moved.on in
     let next-left : w.left ≡ v.left - 1 = ap (λ (z : CursorValue). z.left) moved.on in (
       run_goes_on C A M (record_value c.args.row.now).chain c.args.block.bytes.now (head_value c.args.head.now) k (draft_value c.loop-part.draft)
-          v w c.in-Some.part inv.0.0 moved inv.0.1 inv.0.2 (step_answer k c.run-part.result d) c.run-part.ensures.value d
-          (ap (λ r. step_answer k r d) c.in-default-run-part.is),
+          v w c.in-Some.part inv.0.0 moved inv.0.1 inv.0.2 (step_answer k c.run_part.result d) c.run_part.ensures.value d
+          (ap (λ r. step_answer k r d) c.in_default-run_part.is),
       omega arith,
-      c.run-part.ensures.within,
+      c.run_part.ensures.within,
       omega arith,
     )

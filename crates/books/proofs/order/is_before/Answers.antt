@@ -4,4 +4,4 @@ use Rattle.books.proofs.Orders.{strict_order, least_is_one}
 use Rattle.books.proofs.order.is_before.Goals as goal
 
 pub returns : goal.returns
-returns c = record { value = c.is-lt.ensures ∙ ap is_lt c.order-rows.ensures; strict = strict_order; unique = least_is_one }
+returns c = record { value = c.is_lt.ensures ∙ ap is_lt c.order_rows.ensures; strict = strict_order; unique = least_is_one }

@@ -10,7 +10,7 @@ loop-row-preserved c =
     let r = c.loop-row.best in
     earliest_more _ c.args.rows.now c.loop-row.row-index r c.loop-row.invariant x c.if-has.best c.loop-row-test.true c.row-item.is
     (elim c.if-has.branch [
-      | then-has w ↦ w.best-is ∙ w.earlier-of-best.ensures ∙ ap (λ t. cond t (earlier r (Some x)) r) (sym w.if-has.true ∙ c.has.ensures)
+      | then-has w ↦ w.best-is ∙ w.earlier_of-best.ensures ∙ ap (λ t. cond t (earlier r (Some x)) r) (sym w.if-has.true ∙ c.has.ensures)
       | else-has w ↦ w.best-is ∙ ap (λ t. cond t (earlier r (Some x)) r) (sym w.if-has.false ∙ c.has.ensures)
     ])
 

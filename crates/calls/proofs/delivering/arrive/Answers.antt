@@ -11,9 +11,9 @@ pub open-requires : goal.open-requires
 open-requires g c =
     let A = application g.A.Application.start_a g.A.Application.start_b g.A.Application.operation g.A.Application.message in
     let m = g.B.Books.meaning c.args.books.now in
-    let m' = g.B.Books.meaning c.make-target-target.new.books in
+    let m' = g.B.Books.meaning c.make_target-target.new.books in
     let t = identifier_value c.args.row.now.target in
-    let did = c.make-target-target.ensures in
+    let did = c.make_target-target.ensures in
     let rows = changed_rows (made A t (m.rows.record_at t)) m m' did.change in
     ap (λ q. m'.rows.record_at q) did.key
     ∙ (ap (λ (w : Rows). w.record_at t) rows ∙ (made_there A m.rows t (m.rows.record_at t) refl ∙ ap Some (sym did.value)))

@@ -11,9 +11,9 @@ arrive-requires g c =
     let m = g.B.Books.meaning c.args.books.now in
     let row = c.in-Some.row in
     record {
-      value = c.record-found.ensures.value;
-      key = c.record-found.ensures.key;
-      place = placed A m (outgoing_key row) (outgoing_value row) (counts_value c.arrival-rows-new.result) c.arrival-rows-new.ensures (sym c.fits.ensures ∙ c.if-not-fits.false);
+      value = c.record_found.ensures.value;
+      key = c.record_found.ensures.key;
+      place = placed A m (outgoing_key row) (outgoing_value row) (counts_value c.arrival_rows-new.result) c.arrival_rows-new.ensures (sym c.fits.ensures ∙ c.if-not-fits.false);
     }
 
 pub returns : goal.returns
@@ -22,7 +22,7 @@ returns g c =
     let mean = g.B.Books.meaning in
     let m = mean c.args.books.now in
     let row = c.in-Some.row in
-    let place = placed A m (outgoing_key row) (outgoing_value row) (counts_value c.arrival-rows-new.result) c.arrival-rows-new.ensures (sym c.fits.ensures ∙ c.if-not-fits.false) in
+    let place = placed A m (outgoing_key row) (outgoing_value row) (counts_value c.arrival_rows-new.result) c.arrival_rows-new.ensures (sym c.fits.ensures ∙ c.if-not-fits.false) in
     record {
       change = delivered A m (mean c.arrive.new.books) (mean c.remove_outgoing.new.self) (name_value c.args.name.now) (outgoing_key row) (outgoing_value row)
           c.in-Some.ensures.key c.in-Some.ensures.value place c.arrive.ensures.change c.remove_outgoing.ensures.change;

@@ -10,4 +10,4 @@ returns-then-roots-lt1 c =
 
 pub returns : goal.returns
 returns c =
-    some_roots (members_value c.args.members.now) c.args.roots.now c.are-root-keys.result c.if-roots-lt1.false c.if-roots-gt-MAX-ROOTS.false c.are-root-keys.ensures
+    some_roots (members_value c.args.members.now) c.args.roots.now c.are_root_keys.result c.if-roots-lt1.false c.if-roots-gt-MAX_ROOTS.false c.are_root_keys.ensures

@@ -9,16 +9,16 @@ loop-place-preserved g c =
     let A = application g.A.Application.start_a g.A.Application.start_b g.A.Application.operation g.A.Application.message in
     let mean = g.B.Books.meaning in
     let m = mean c.loop-place.books in
-    let m' = mean c.put-record.new.self in
+    let m' = mean c.put_record.new.self in
     let laws = g.B.Books.laws c.loop-place.books in
     let ks = c.args.roots.now in
     let i = c.loop-place.place in
-    let row = c.new-record-row in
-    let did = root_put A m m' laws ks i c.loop-place-test.true (record_key row.result) (record_value row.result) c.put-record.result
-    (row.ensures.key ∙ c.root.ensures) row.ensures.value c.put-record.ensures.change c.loop-place.invariant.1 in (
+    let row = c.new_record-row in
+    let did = root_put A m m' laws ks i c.loop-place-test.true (record_key row.result) (record_value row.result) c.put_record.result
+    (row.ensures.key ∙ c.root.ensures) row.ensures.value c.put_record.ensures.change c.loop-place.invariant.1 in (
       (λ q k. c.loop-place.invariant.0 q (root_and_rest A m m' laws ks i c.loop-place-test.true did.0 q k)),
       did.1,
-      c.put-record.ensures.rest ∙ c.loop-place.invariant.2,
+      c.put_record.ensures.rest ∙ c.loop-place.invariant.2,
     )
 
 pub returns : goal.returns

@@ -9,10 +9,10 @@ use Rattle.format.proofs.Lengths.{length_command, longest_command}
 use Rattle.format.proofs.Writes.{length_joined_drop}
 use Rattle.format.proofs.composing.commands_len.Goals as goal
 
-pub returns-then-not-is-allowed : goal.returns-then-not-is-allowed
-returns-then-not-is-allowed c =
+pub returns-then-not-is_allowed : goal.returns-then-not-is_allowed
+returns-then-not-is_allowed c =
     let step = allowed_drop c.args.commands.now c.loop-command.command-index c.command-item.result c.loop-command-test.true c.command-item.is in
-    sym (cond-false _ _ _ (sym c.loop-command.invariant.1 ∙ step ∙ and_left _ _ (sym c.is-allowed.ensures ∙ c.if-not-is-allowed.true)))
+    sym (cond-false _ _ _ (sym c.loop-command.invariant.1 ∙ step ∙ and_left _ _ (sym c.is_allowed.ensures ∙ c.if-not-is_allowed.true)))
 
 pub loop-command-preserved : goal.loop-command-preserved
 loop-command-preserved c =
@@ -22,7 +22,7 @@ loop-command-preserved c =
     let step = allowed_drop cs i x c.loop-command-test.true c.command-item.is in
     let n = length_joined_drop encoded cs i x c.loop-command-test.true c.command-item.is in
     let one = length_command (command_value x) in
-    let good = sym c.is-allowed.ensures ∙ c.if-not-is-allowed.false in (
+    let good = sym c.is_allowed.ensures ∙ c.if-not-is_allowed.false in (
       omega (arith, longest_command (command_value x), c.operands_len.ensures),
       sym (step ∙ ap (λ z. z && allowed (drop (i + 1) cs)) good) ∙ c.loop-command.invariant.1,
       omega (arith, n, c.operands_len.ensures, c.loop-command.invariant.2),

@@ -5,9 +5,9 @@ use Rattle.std.specs.Str.{bytes_eq}
 use Rattle.format.specs.Rules.{head_allowed, zero_digest}
 use Rattle.format.proofs.composing.head_is_allowed.Goals as goal
 
-pub returns-then-height-gt-MAX-HEIGHT : goal.returns-then-height-gt-MAX-HEIGHT
+pub returns-then-height-gt-MAX_HEIGHT : goal.returns-then-height-gt-MAX_HEIGHT
 unfolding head_allowed
-returns-then-height-gt-MAX-HEIGHT c = record { value = search rules; len = search rules }
+returns-then-height-gt-MAX_HEIGHT c = record { value = search rules; len = search rules }
 
 pub returns-then-height-gt0 : goal.returns-then-height-gt0
 unfolding head_allowed

@@ -8,6 +8,6 @@ use Rattle.format.proofs.composing.write_head.Goals as goal
 pub returns : goal.returns
 unfolding head_bytes
 returns c =
-    wrote_then (wrote_as c.write-at-at.ensures c.to_bytes.ensures.bytes)
-    (wrote_then (wrote_as c.write-at-at-2.ensures c.to-bytes-2.ensures)
-    (wrote_then c.write-at-at-3.ensures (wrote_as c.write-at.ensures (ap (λ n. n ∷ []) (sym (length-map c.args.block.now.commands.now command_value))))))
+    wrote_then (wrote_as c.write_at-at.ensures c.to_bytes.ensures.bytes)
+    (wrote_then (wrote_as c.write_at-at-2.ensures c.to_bytes-2.ensures)
+    (wrote_then c.write_at-at-3.ensures (wrote_as c.write_at.ensures (ap (λ n. n ∷ []) (sym (length-map c.args.block.now.commands.now command_value))))))

@@ -6,5 +6,5 @@ pub returns : goal.returns
 returns c = record {
   fits = c.requires;
   end = refl;
-  held = written_part c.args.buffer.now c.args.at c.args.bytes.now _ c.copy-from-slice.ensures.after;
+  held = written_part c.args.buffer.now c.args.at c.args.bytes.now _ c.copy_from_slice.ensures.after;
 }

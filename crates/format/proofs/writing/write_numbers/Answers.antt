@@ -10,12 +10,12 @@ use Rattle.format.proofs.writing.write_numbers.Goals as goal
 pub loop-number-init : goal.loop-number-init
 loop-number-init c = (wrote_none _ _ (omega (arith, c.requires)), tt)
 
-pub write-at-at-requires : goal.write-at-at-requires
-write-at-at-requires c =
+pub write_at-at-requires : goal.write_at-at-requires
+write_at-at-requires c =
     let ns = c.args.numbers.now in
     let i = c.loop-number.number-index in
     let fits = item_fits (to_bytes number_len) ns i (get_or ns i 0) c.loop-number-test.true (get_or_default ns i 0 _ c.loop-number-test.true) in
-    omega (arith, fits, ap length c.to-be-bytes.ensures, c.loop-number.invariant.0.end, c.loop-number.auto.buffer, c.requires)
+    omega (arith, fits, ap length c.to_be_bytes.ensures, c.loop-number.invariant.0.end, c.loop-number.auto.buffer, c.requires)
 
 pub loop-number-preserved : goal.loop-number-preserved
 loop-number-preserved c =
@@ -23,7 +23,7 @@ loop-number-preserved c =
     let i = c.loop-number.number-index in
     let low : get_or ns i 0 < 256 ^ number_len = search rules in (
       wrote_item (to_bytes number_len) ns i (get_or ns i 0) c.loop-number-test.true (get_or_default ns i 0 _ c.loop-number-test.true)
-          c.loop-number.invariant.0 (wrote_as c.write-at-at.ensures c.to-be-bytes.ensures),
+          c.loop-number.invariant.0 (wrote_as c.write_at-at.ensures c.to_be_bytes.ensures),
       All-more (λ n. n < 256 ^ number_len) ns i 0 c.loop-number-test.true c.loop-number.invariant.1 low,
     )
 

@@ -11,9 +11,9 @@ pub loop-i-preserved : goal.loop-i-preserved
 loop-i-preserved c =
     let h : length c.args.hash.now ≡ hash_words = search rules in
     let b = word_to_bytes (get_or c.args.hash.now c.loop-i.i 0) in
-    let e : c.copy-from-slice.new.self ≡ word_bytes (get_or c.args.hash.now c.loop-i.i 0) = cc in (
+    let e : c.copy_from_slice.new.self ≡ word_bytes (get_or c.args.hash.now c.loop-i.i 0) = cc in (
       search (rules, places),
-      take-put_mid (word_len * c.loop-i.i) _ c.loop-i.out c.copy-from-slice.new.self (word_len * (c.loop-i.i + 1)) (omega (arith, ap length e)) (omega arith)
+      take-put_mid (word_len * c.loop-i.i) _ c.loop-i.out c.copy_from_slice.new.self (word_len * (c.loop-i.i + 1)) (omega (arith, ap length e)) (omega arith)
           ∙ ap₂ (λ x y. x ++ y) c.loop-i.invariant.1 e
           ∙ sym (joined_take c.args.hash.now c.loop-i.i (omega arith)),
     )

@@ -14,10 +14,10 @@ returns c =
     let k : ℕ = length rest / block_len in
     let same : padding ((c.args.before + length rest) % 2 ^ 64) ≡ padding (c.args.before + length rest) =
     padding_same ((c.args.before + length rest) % 2 ^ 64) (c.args.before + length rest) (omega arith) in
-    c.digest-bytes.ensures
+    c.digest_bytes.ensures
     ∙ ap (flat_map word_bytes)
-    (c.compress-last.ensures
+    (c.compress_last.ensures
     ∙ ap₂ (λ h l. hashed h (l ++ padding ((c.args.before + length rest) % 2 ^ 64)))
-    (c.compress-blocks.ensures ∙ ap (fold compressed c.args.hash) c.as-chunks.ensures.front) c.as-chunks.ensures.back
+    (c.compress_blocks.ensures ∙ ap (fold compressed c.args.hash) c.as_chunks.ensures.front) c.as_chunks.ensures.back
     ∙ ap (λ p. hashed (fold compressed c.args.hash (first_chunks block_len k rest)) (drop (k * block_len) rest ++ p)) same
     ∙ sym (hashed_blocks k c.args.hash rest (padding (c.args.before + length rest)) (omega arith)))

@@ -14,15 +14,15 @@ block_of : (key short : List ℕ) → short ≡ short_key key → written (repli
 unfolding key_block
 block_of key short e = filled short ∙ ap (λ k. k ++ replicate (block_len - length k) 0) e
 
-pub returns-then-key-gt-BLOCK-LEN : goal.returns-then-key-gt-BLOCK-LEN
-returns-then-key-gt-BLOCK-LEN c =
+pub returns-then-key-gt-BLOCK_LEN : goal.returns-then-key-gt-BLOCK_LEN
+returns-then-key-gt-BLOCK_LEN c =
     let key : List ℕ = c.args.key.now in
     c.put.ensures
     ∙ block_of key c.sha256.result
-    (c.sha256.ensures.value ∙ sym (ap (λ b. cond b (sha256_of key) key) (lt-ltb block_len (length key) c.if-key-gt-BLOCK-LEN.true)))
+    (c.sha256.ensures.value ∙ sym (ap (λ b. cond b (sha256_of key) key) (lt-ltb block_len (length key) c.if-key-gt-BLOCK_LEN.true)))
 
-pub returns-else-key-gt-BLOCK-LEN : goal.returns-else-key-gt-BLOCK-LEN
-returns-else-key-gt-BLOCK-LEN c =
+pub returns-else-key-gt-BLOCK_LEN : goal.returns-else-key-gt-BLOCK_LEN
+returns-else-key-gt-BLOCK_LEN c =
     let key : List ℕ = c.args.key.now in
-    c.put-else-key-gt-BLOCK-LEN.ensures
-    ∙ block_of key key (sym (ap (λ b. cond b (sha256_of key) key) (le-ltb block_len (length key) c.if-key-gt-BLOCK-LEN.false)))
+    c.put-else-key-gt-BLOCK_LEN.ensures
+    ∙ block_of key key (sym (ap (λ b. cond b (sha256_of key) key) (le-ltb block_len (length key) c.if-key-gt-BLOCK_LEN.false)))

@@ -11,7 +11,7 @@ use Rattle.hash.proofs.keyed.keyed_digest.Goals as goal
 pub returns : goal.returns
 unfolding sha256_of
 returns c =
-    c.digest-from.ensures
+    c.digest_from.ensures
     ∙ ap (flat_map word_bytes)
     (ap (λ h. hashed h (c.args.rest.now ++ padding (block_len + length c.args.rest.now)))
     (c.compress.ensures ∙ ap (compressed initial) c.xored.ensures)

@@ -11,7 +11,7 @@ pub returns : goal.returns
 returns c =
     let bs = c.args.bytes.now in
     let d = identifier_value c.args.chain.now in
-    c.is-some.ensures
+    c.is_some.ensures
     ∙ some_scanned (held_and (minus_row d)) bs c.scan.result
     (scanned (minus_prefix d) (held_and (minus_row d)) (minus_begins d c.minus_of.ensures.fits) bs c.requires.0 c.scan.result
     (subst (λ p. Scan p bs c.scan.result) c.minus_of.ensures.value c.scan.ensures))

@@ -17,17 +17,17 @@ loop-i-preserved c =
     let bs = c.args.bytes.now in
     let i = c.loop-i.i in
     let best = option_map entry_value c.loop-i.best in
-    let end = c.slot-count-i-end.ensures in
+    let end = c.slot_count-i-end.ensures in
     let l = c.loop-i-test.true in
     let within : i < usable bs = omega arith in
     let low : i < length (cells bs) = omega (arith, length_cells bs) in
-    least_more (on c.args.side) (cells bs) i best (option_map entry_value c.earlier-in-best.result) low
-    (c.earlier-in-best.ensures ∙ ap (λ o. earlier_cell (on c.args.side) best (outgoing_part o)) (ap row_in c.slot-at.ensures ∙ sym (cell_at bs i within)))
+    least_more (on c.args.side) (cells bs) i best (option_map entry_value c.earlier_in-best.result) low
+    (c.earlier_in-best.ensures ∙ ap (λ o. earlier_cell (on c.args.side) best (outgoing_part o)) (ap row_in c.slot_at.ensures ∙ sym (cell_at bs i within)))
     c.loop-i.invariant
 
 pub returns : goal.returns
 returns c =
     let bs = c.args.bytes.now in
     let r = option_map entry_value c.loop-i.best in
-    let high : length (cells bs) ≤ c.loop-i.i = omega (arith, length_cells bs, c.slot-count-i-end.ensures, c.loop-i-test.false) in
+    let high : length (cells bs) ≤ c.loop-i.i = omega (arith, length_cells bs, c.slot_count-i-end.ensures, c.loop-i-test.false) in
     least_is (on c.args.side) (cells bs) c.requires.1 r (least_all (on c.args.side) (cells bs) c.loop-i.i r high c.loop-i.invariant)

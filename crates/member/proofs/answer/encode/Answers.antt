@@ -10,8 +10,8 @@ use Rattle.member.proofs.answer.encode.Goals as goal
 pub returns : goal.returns
 returns c =
     let b = block_value c.args.block.now in
-    let done = c.in-ok-len.ensures in
-    let n = composed_length b _ c.in-ok-len.len (sym done.answer) in
-    let front : take c.in-ok-len.len c.compose.new.destination ≡ bytes_of b = ap (take c.in-ok-len.len) done.left ∙ take_at (bytes_of b) _ c.in-ok-len.len n in
-    let part = ap (λ k. take k c.compose.new.destination) (sub-zero c.in-ok-len.len) in
+    let done = c.in_ok-len.ensures in
+    let n = composed_length b _ c.in_ok-len.len (sym done.answer) in
+    let front : take c.in_ok-len.len c.compose.new.destination ≡ bytes_of b = ap (take c.in_ok-len.len) done.left ∙ take_at (bytes_of b) _ c.in_ok-len.len n in
+    let part = ap (λ k. take k c.compose.new.destination) (sub-zero c.in_ok-len.len) in
     (sym done.answer, front, c.of-digest.ensures ∙ ap sha256_of (part ∙ front))

@@ -4,27 +4,27 @@ use Rattle.reading.specs.Commands.{operands_in, front_byte, command_len}
 use Rattle.reading.proofs.Fronts.{no_byte, with_byte, front_short, cut_operands}
 use Rattle.reading.proofs.command.read_command.Goals as goal
 
-pub returns-then-rest-lt-COMMAND-BYTE-LEN : goal.returns-then-rest-lt-COMMAND-BYTE-LEN
-returns-then-rest-lt-COMMAND-BYTE-LEN c = no_byte _ c.if-rest-lt-COMMAND-BYTE-LEN.true
+pub returns-then-rest-lt-COMMAND_BYTE_LEN : goal.returns-then-rest-lt-COMMAND_BYTE_LEN
+returns-then-rest-lt-COMMAND_BYTE_LEN c = no_byte _ c.if-rest-lt-COMMAND_BYTE_LEN.true
 
 pub returns-then-rest-end : goal.returns-then-rest-end
 returns-then-rest-end c =
-    front_short c.args.rest.now c.if-rest-lt-COMMAND-BYTE-LEN.false (omega (arith, c.operands-len-end.ensures, c.if-rest-end.true))
+    front_short c.args.rest.now c.if-rest-lt-COMMAND_BYTE_LEN.false (omega (arith, c.operands_len-end.ensures, c.if-rest-end.true))
 
-pub returns-in-default : goal.returns-in-default
-returns-in-default c =
+pub returns-in_default : goal.returns-in_default
+returns-in_default c =
     let bs = c.args.rest.now in
-    let operands = ap (operands_in (front_byte bs)) (cut_operands bs _ c.operands-len-end.ensures) in
-    with_byte bs c.if-rest-lt-COMMAND-BYTE-LEN.false ∙ sym operands ∙ sym c.in-default.ensures
+    let operands = ap (operands_in (front_byte bs)) (cut_operands bs _ c.operands_len-end.ensures) in
+    with_byte bs c.if-rest-lt-COMMAND_BYTE_LEN.false ∙ sym operands ∙ sym c.in_default.ensures
 
 pub returns : goal.returns
 unfolding command_len
 returns c =
     let bs = c.args.rest.now in
-    let operands = cut_operands bs _ c.operands-len-end.ensures in
+    let operands = cut_operands bs _ c.operands_len-end.ensures in
     record {
-      known = ap is_some (with_byte bs c.if-rest-lt-COMMAND-BYTE-LEN.false ∙ sym (c.in-Some.ensures ∙ ap (operands_in (front_byte bs)) operands));
+      known = ap is_some (with_byte bs c.if-rest-lt-COMMAND_BYTE_LEN.false ∙ sym (c.in-Some.ensures ∙ ap (operands_in (front_byte bs)) operands));
       lies = record { byte = refl; operands = ap (λ z. (c.args.at + command_byte_len, z)) operands };
-      len = simp (length-take, length-drop) (omega (arith, c.operands-len-end.ensures, c.if-rest-end.false));
-      fits = omega (arith, c.operands-len-end.ensures, c.if-rest-end.false);
+      len = simp (length-take, length-drop) (omega (arith, c.operands_len-end.ensures, c.if-rest-end.false));
+      fits = omega (arith, c.operands_len-end.ensures, c.if-rest-end.false);
     }

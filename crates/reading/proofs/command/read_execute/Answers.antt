@@ -5,14 +5,14 @@ use Rattle.reading.specs.Fields.{identifier_in}
 use Rattle.reading.specs.Commands.{execute_in}
 use Rattle.reading.proofs.command.read_execute.Goals as goal
 
-pub returns-then-operands-ne-EXECUTE-LEN : goal.returns-then-operands-ne-EXECUTE-LEN
+pub returns-then-operands-ne-EXECUTE_LEN : goal.returns-then-operands-ne-EXECUTE_LEN
 unfolding execute_in
-returns-then-operands-ne-EXECUTE-LEN c = search rules
+returns-then-operands-ne-EXECUTE_LEN c = search rules
 
-pub returns-in-default : goal.returns-in-default
+pub returns-in_default : goal.returns-in_default
 unfolding execute_in
-returns-in-default c =
-    let t = c.in-default.ensures ∙ ap identifier_in (take_rest c.args.operands.now (code_len + value_len)) in
+returns-in_default c =
+    let t = c.in_default.ensures ∙ ap identifier_in (take_rest c.args.operands.now (code_len + value_len)) in
     search rules
 
 pub returns : goal.returns

@@ -7,13 +7,13 @@ use Rattle.format.specs.Meaning.{identifier_value}
 use Rattle.reading.specs.Fields.{identifier_in, numbers_in}
 use Rattle.reading.proofs.fields.read_identifier.Goals as goal
 
-pub returns-then-bytes-ne-IDENTIFIER-LEN : goal.returns-then-bytes-ne-IDENTIFIER-LEN
+pub returns-then-bytes-ne-IDENTIFIER_LEN : goal.returns-then-bytes-ne-IDENTIFIER_LEN
 unfolding identifier_in
-returns-then-bytes-ne-IDENTIFIER-LEN c = sym (cond-false _ _ _ (ne_eqb _ _ c.if-bytes-ne-IDENTIFIER-LEN.true))
+returns-then-bytes-ne-IDENTIFIER_LEN c = sym (cond-false _ _ _ (ne_eqb _ _ c.if-bytes-ne-IDENTIFIER_LEN.true))
 
 pub returns : goal.returns
 unfolding identifier_in
 returns c =
     let bs = c.args.bytes.now in
     ap (option_map identifier_value) c.ok.ensures.value ∙ c.new.ensures ∙ ap (identified (get_or bs 0 0)) c.numbers_in.ensures
-    ∙ sym (cond-true _ (identified (get_or bs 0 0) (numbers_in max_depth (drop depth_len bs))) None (eq-eqb _ _ c.if-bytes-ne-IDENTIFIER-LEN.false))
+    ∙ sym (cond-true _ (identified (get_or bs 0 0) (numbers_in max_depth (drop depth_len bs))) None (eq-eqb _ _ c.if-bytes-ne-IDENTIFIER_LEN.false))

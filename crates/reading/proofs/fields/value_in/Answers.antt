@@ -5,5 +5,5 @@ use Rattle.reading.proofs.fields.value_in.Goals as goal
 
 pub returns : goal.returns
 returns c =
-    let n = c.from-be-bytes.ensures ∙ number_of_eight c.args.bytes.now c.requires in
+    let n = c.from_be_bytes.ensures ∙ number_of_eight c.args.bytes.now c.requires in
     search (rules, to_z-of_z)

@@ -6,9 +6,9 @@ use Rattle.std.proofs.lemmas.Bool.Decides.{same_from_decides, Decides-like}
 use Rattle.seals.proofs.Differences.{differs_more}
 use Rattle.seals.proofs.tags.is_tag.Goals as goal
 
-pub returns-then-seal-ne-TAG-LEN : goal.returns-then-seal-ne-TAG-LEN
-returns-then-seal-ne-TAG-LEN c =
-    same_from_decides false _ ((λ e. absurd (false≢true e)), (λ e. absurd (c.if-seal-ne-TAG-LEN.true (ap length e ∙ c.told-tag)))) (bytes_eq-Decides c.args.seal.now c.args.tag.now)
+pub returns-then-seal-ne-TAG_LEN : goal.returns-then-seal-ne-TAG_LEN
+returns-then-seal-ne-TAG_LEN c =
+    same_from_decides false _ ((λ e. absurd (false≢true e)), (λ e. absurd (c.if-seal-ne-TAG_LEN.true (ap length e ∙ c.told-tag)))) (bytes_eq-Decides c.args.seal.now c.args.tag.now)
 
 pub loop-i-init : goal.loop-i-init
 loop-i-init c = (λ _. refl, λ _. refl)

@@ -3,9 +3,9 @@ use Rattle.std.proofs.lemmas.Bool.{cond-true, cond-false, and_left, and_right, a
 use Rattle.slots.specs.Reading.{chain_in, home_in}
 use Rattle.slots.proofs.decoding.home_of.Goals as goal
 
-pub returns-then-slot-ne-SLOT-LEN : goal.returns-then-slot-ne-SLOT-LEN
+pub returns-then-slot-ne-SLOT_LEN : goal.returns-then-slot-ne-SLOT_LEN
 unfolding home_in
-returns-then-slot-ne-SLOT-LEN c = sym (cond-false _ (chain_in c.args.slot.now) None (and_left _ _ (ne_eqb _ _ c.if-slot-ne-SLOT-LEN.true)))
+returns-then-slot-ne-SLOT_LEN c = sym (cond-false _ (chain_in c.args.slot.now) None (and_left _ _ (ne_eqb _ _ c.if-slot-ne-SLOT_LEN.true)))
 
 pub returns-then-slot-eq-FREE : goal.returns-then-slot-eq-FREE
 unfolding home_in
@@ -14,6 +14,6 @@ returns-then-slot-eq-FREE c = sym (cond-false _ (chain_in c.args.slot.now) None 
 pub returns : goal.returns
 unfolding home_in
 returns c =
-    c.read-identifier.ensures
+    c.read_identifier.ensures
     ∙ sym (cond-true _ (chain_in c.args.slot.now) None
-    (and_from _ _ (eq-eqb _ _ c.if-slot-ne-SLOT-LEN.false) (not_from_false _ (ne_eqb _ _ c.if-slot-eq-FREE.false))))
+    (and_from _ _ (eq-eqb _ _ c.if-slot-ne-SLOT_LEN.false) (not_from_false _ (ne_eqb _ _ c.if-slot-eq-FREE.false))))

@@ -7,14 +7,14 @@ use Rattle.slots.proofs.decoding.record_of.Goals as goal
 pub returns : goal.returns
 unfolding record_fields
 returns c =
-    let fits-a : SFits w64 c.value-in.result = search rules in
-    let fits-b : SFits w64 c.value-in-2.result = search rules in
-    let a = to_z-of_z w64 c.value-in.result fits-a ∙ c.value-in.ensures in
-    let b = to_z-of_z w64 c.value-in-2.result fits-b ∙ c.value-in-2.ensures in
+    let fits-a : SFits w64 c.value_in.result = search rules in
+    let fits-b : SFits w64 c.value_in-2.result = search rules in
+    let a = to_z-of_z w64 c.value_in.result fits-a ∙ c.value_in.ensures in
+    let b = to_z-of_z w64 c.value_in-2.result fits-b ∙ c.value_in-2.ensures in
     λ i. (
       identifier_value c.args.identifier,
       record {
-        chain = record { owner = c.key-in.ensures i; next = c.height-in.ensures i; digest = c.digest-in.ensures i; a = a i; b = b i };
+        chain = record { owner = c.key_in.ensures i; next = c.height_in.ensures i; digest = c.digest_in.ensures i; a = a i; b = b i };
         vote = c.vote_in.ensures i;
       },
     )

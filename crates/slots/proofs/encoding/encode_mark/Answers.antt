@@ -10,8 +10,8 @@ unfolding mark_bytes
 returns c = record {
   bytes =
       wrote_filled
-      (wrote_then (wrote_as c.write-at-at.ensures (ap (λ b. b ∷ []) c.sign_byte.ensures))
-      (wrote_then c.write-identifier-at.ensures.wrote c.write-message.ensures.wrote));
-  fits = record { target = c.write-identifier-at.ensures.fits; message = c.write-message.ensures.fits };
+      (wrote_then (wrote_as c.write_at-at.ensures (ap (λ b. b ∷ []) c.sign_byte.ensures))
+      (wrote_then c.write_identifier-at.ensures.wrote c.write_message.ensures.wrote));
+  fits = record { target = c.write_identifier-at.ensures.fits; message = c.write_message.ensures.fits };
   back = rows_read_back;
 }

@@ -10,8 +10,8 @@ unfolding outgoing_bytes
 returns c = record {
   bytes =
       wrote_filled
-      (wrote_then (wrote_as c.write-at-at.ensures (ap (λ b. b ∷ []) c.load-byte.ensures))
-      (wrote_then c.write-name-at.ensures.wrote (wrote_then c.write-identifier-at.ensures.wrote c.write-load.ensures.wrote)));
-  fits = record { name = c.write-name-at.ensures.fits; target = c.write-identifier-at.ensures.fits; load = c.write-load.ensures.fits };
+      (wrote_then (wrote_as c.write_at-at.ensures (ap (λ b. b ∷ []) c.load_byte.ensures))
+      (wrote_then c.write_name-at.ensures.wrote (wrote_then c.write_identifier-at.ensures.wrote c.write_load.ensures.wrote)));
+  fits = record { name = c.write_name-at.ensures.fits; target = c.write_identifier-at.ensures.fits; load = c.write_load.ensures.fits };
   back = rows_read_back;
 }

@@ -9,22 +9,22 @@ unfolding record_bytes
 returns c = record {
   bytes =
       wrote_filled
-      (wrote_then c.write-at-at.ensures
-      (wrote_then c.write-identifier-at.ensures.wrote
-      (wrote_then c.write-key-at.ensures.wrote
-      (wrote_then c.write-height-at.ensures.wrote
-      (wrote_then c.write-digest-at.ensures.wrote
-      (wrote_then c.write-value-at.ensures.wrote
-      (wrote_then c.write-value-at-2.ensures.wrote
-      c.write-vote.ensures.wrote)))))));
+      (wrote_then c.write_at-at.ensures
+      (wrote_then c.write_identifier-at.ensures.wrote
+      (wrote_then c.write_key-at.ensures.wrote
+      (wrote_then c.write_height-at.ensures.wrote
+      (wrote_then c.write_digest-at.ensures.wrote
+      (wrote_then c.write_value-at.ensures.wrote
+      (wrote_then c.write_value-at-2.ensures.wrote
+      c.write_vote.ensures.wrote)))))));
   fits = record {
-    identifier = c.write-identifier-at.ensures.fits;
-    owner = c.write-key-at.ensures.fits;
-    next = c.write-height-at.ensures.fits;
-    last = c.write-digest-at.ensures.fits;
-    a = c.write-value-at.ensures.fits;
-    b = c.write-value-at-2.ensures.fits;
-    vote = c.write-vote.ensures.fits;
+    identifier = c.write_identifier-at.ensures.fits;
+    owner = c.write_key-at.ensures.fits;
+    next = c.write_height-at.ensures.fits;
+    last = c.write_digest-at.ensures.fits;
+    a = c.write_value-at.ensures.fits;
+    b = c.write_value-at-2.ensures.fits;
+    vote = c.write_vote.ensures.fits;
   };
   back = rows_read_back;
 }

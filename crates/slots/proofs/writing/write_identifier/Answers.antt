@@ -6,7 +6,7 @@ use Rattle.slots.proofs.writing.write_identifier.Goals as goal
 
 pub returns : goal.returns
 returns c =
-    let w = wrote_as c.write-at.ensures c.to_bytes.ensures.bytes in
+    let w = wrote_as c.write_at.ensures c.to_bytes.ensures.bytes in
     record {
       wrote = w;
       end = w.end ∙ ap (λ n. c.args.at + n) (length_identifier (identifier_value c.args.identifier.now));

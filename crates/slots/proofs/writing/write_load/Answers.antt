@@ -7,12 +7,12 @@ use Rattle.slots.proofs.writing.write_load.Goals as goal
 
 pub returns-in-Opening : goal.returns-in-Opening
 returns-in-Opening c = record {
-  wrote = wrote_as c.write-key.ensures.wrote (ap (λ l. load_bytes (load_value l)) (sym c.in-Opening.is));
-  fits = subst (λ l. LoadFits (load_value l)) (sym c.in-Opening.is) c.write-key.ensures.fits;
+  wrote = wrote_as c.write_key.ensures.wrote (ap (λ l. load_bytes (load_value l)) (sym c.in-Opening.is));
+  fits = subst (λ l. LoadFits (load_value l)) (sym c.in-Opening.is) c.write_key.ensures.fits;
 }
 
 pub returns-in-Sent : goal.returns-in-Sent
 returns-in-Sent c = record {
-  wrote = wrote_as (wrote_then c.write-at-at.ensures c.write-value.ensures.wrote) (ap (λ l. load_bytes (load_value l)) (sym c.in-Sent.is));
-  fits = subst (λ l. LoadFits (load_value l)) (sym c.in-Sent.is) c.write-value.ensures.fits;
+  wrote = wrote_as (wrote_then c.write_at-at.ensures c.write_value.ensures.wrote) (ap (λ l. load_bytes (load_value l)) (sym c.in-Sent.is));
+  fits = subst (λ l. LoadFits (load_value l)) (sym c.in-Sent.is) c.write_value.ensures.fits;
 }

@@ -8,4 +8,4 @@ pub returns : goal.returns
 returns c =
     let v = c.args.value.now in
     let fits : SFits w64 v = search rules in
-    record { wrote = wrote_as c.write-at.ensures (c.value-bytes.ensures ∙ ap signed_bytes (to_z-of_z w64 v fits)); fits = fits }
+    record { wrote = wrote_as c.write_at.ensures (c.value_bytes.ensures ∙ ap signed_bytes (to_z-of_z w64 v fits)); fits = fits }

@@ -14,10 +14,10 @@ use Rattle.format.proofs.identifier.Identifier.to_bytes.Goals as goal
 filled : (x : Identifier) → length x.numbers ≡ max_depth → length (flat_map (to_bytes number_len) x.numbers) ≡ max_depth * number_len
 filled x long = length_joined (to_bytes number_len) number_len (length_of_bytes number_len) x.numbers ∙ ap (λ k. k * number_len) long
 
-pub write-numbers-requires : goal.write-numbers-requires
-write-numbers-requires c =
+pub write_numbers-requires : goal.write_numbers-requires
+write_numbers-requires c =
     let long : length c.args.self.now.numbers ≡ max_depth = search rules in
-    omega (arith, filled c.args.self.now long, c.write-at-at.ensures.end, c.write-at-at.auto.buffer)
+    omega (arith, filled c.args.self.now long, c.write_at-at.ensures.end, c.write_at-at.auto.buffer)
 
 pub returns : goal.returns
 unfolding identifier_bytes
@@ -29,8 +29,8 @@ returns c =
     let used = depth_is x.depth x.numbers long x.ok in
     record {
       bytes =
-          wrote_whole (wrote_then c.write-at-at.ensures c.write-numbers.ensures.wrote)
-          (omega (arith, filled x long, c.write-at-at.ensures.end, c.write-numbers.ensures.wrote.end))
+          wrote_whole (wrote_then c.write_at-at.ensures c.write_numbers.ensures.wrote)
+          (omega (arith, filled x long, c.write_at-at.ensures.end, c.write_numbers.ensures.wrote.end))
           ∙ (λ i. sym used i ∷ flat_map (to_bytes number_len) (sym (padded_is x.depth x.numbers long x.ok) i));
-      fits = record { some = omega arith; few = omega arith; fit = All-take (λ n. n < 256 ^ number_len) x.depth x.numbers c.write-numbers.ensures.fits };
+      fits = record { some = omega arith; few = omega arith; fit = All-take (λ n. n < 256 ^ number_len) x.depth x.numbers c.write_numbers.ensures.fits };
     }

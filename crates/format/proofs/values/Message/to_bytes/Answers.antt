@@ -12,8 +12,8 @@ returns c =
     let v = c.args.self.now.value in
     let fits : SFits w64 v = search rules in
     let name : length c.to_bytes.result ≡ name_len = search rules in
-    let value : length c.value-bytes.result ≡ value_len = search rules in
+    let value : length c.value_bytes.result ≡ value_len = search rules in
     wrote_whole
-    (wrote_then (wrote_as c.write-at-at.ensures c.to_bytes.ensures)
-    (wrote_then c.write-at-at-2.ensures (wrote_as c.write-at.ensures (c.value-bytes.ensures ∙ ap signed_bytes (to_z-of_z w64 v fits)))))
-    (omega (arith, c.write-at-at.ensures.end, c.write-at-at-2.ensures.end, c.write-at.ensures.end))
+    (wrote_then (wrote_as c.write_at-at.ensures c.to_bytes.ensures)
+    (wrote_then c.write_at-at-2.ensures (wrote_as c.write_at.ensures (c.value_bytes.ensures ∙ ap signed_bytes (to_z-of_z w64 v fits)))))
+    (omega (arith, c.write_at-at.ensures.end, c.write_at-at-2.ensures.end, c.write_at.ensures.end))

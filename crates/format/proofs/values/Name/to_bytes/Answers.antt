@@ -8,8 +8,8 @@ pub returns : goal.returns
 unfolding name_bytes
 returns c =
     let sender : length c.to_bytes.result ≡ identifier_len = search rules in
-    let height : length c.to-bytes-2.result ≡ height_len = search rules in
+    let height : length c.to_bytes-2.result ≡ height_len = search rules in
     wrote_whole
-    (wrote_then (wrote_as c.write-at-at.ensures c.to_bytes.ensures.bytes)
-    (wrote_then (wrote_as c.write-at-at-2.ensures c.to-bytes-2.ensures) c.write-at.ensures))
-    (omega (arith, c.write-at-at.ensures.end, c.write-at-at-2.ensures.end, c.write-at.ensures.end))
+    (wrote_then (wrote_as c.write_at-at.ensures c.to_bytes.ensures.bytes)
+    (wrote_then (wrote_as c.write_at-at-2.ensures c.to_bytes-2.ensures) c.write_at.ensures))
+    (omega (arith, c.write_at-at.ensures.end, c.write_at-at-2.ensures.end, c.write_at.ensures.end))

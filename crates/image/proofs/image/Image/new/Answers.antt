@@ -3,8 +3,8 @@ use Rattle.slots.specs.Cells.{celled}
 use Rattle.image.proofs.Answered.{new_cells, new_sound, new_past}
 use Rattle.image.proofs.image.Image.new.Goals as goal
 
-pub invariant-of-result : goal.invariant-of-result
-invariant-of-result c = (new_sound c.args.bytes.now c.new.result.bytes.now c.new.ensures, tt)
+pub invariant_of-result : goal.invariant_of-result
+invariant_of-result c = (new_sound c.args.bytes.now c.new.result.bytes.now c.new.ensures, tt)
 
 pub returns : goal.returns
 returns c = record {

@@ -3,17 +3,17 @@ use Rattle.reading.specs.Cursors.{cursor_value}
 use Rattle.reading.proofs.Moves.{behind_at}
 use Rattle.reading.proofs.cursor.Cursor.next.Goals as goal
 
-pub slice-bounds-self-count : goal.slice-bounds-self-count
-slice-bounds-self-count c = let s = c.in-Some.ensures in omega (arith, s.len, s.fits)
+pub slice_bounds-self-count : goal.slice_bounds-self-count
+slice_bounds-self-count c = let s = c.in-Some.ensures in omega (arith, s.len, s.fits)
 
-pub slice-bounds-self-start : goal.slice-bounds-self-start
-slice-bounds-self-start c = let s = c.in-Some.ensures in search rules
+pub slice_bounds-self-start : goal.slice_bounds-self-start
+slice_bounds-self-start c = let s = c.in-Some.ensures in search rules
 
-pub overflow-add-self : goal.overflow-add-self
-overflow-add-self c = let s = c.in-Some.ensures in search rules
+pub overflow_add-self : goal.overflow_add-self
+overflow_add-self c = let s = c.in-Some.ensures in search rules
 
-pub invariant-of-self : goal.invariant-of-self
-invariant-of-self c =
+pub invariant_of-self : goal.invariant_of-self
+invariant_of-self c =
     let s = c.in-Some.ensures in
     let ok = c.args.self.now.ok in
     ((simp (length-take, length-drop) (omega (arith, s.len, s.fits, ok.0)), omega (arith, ok.1, c.if-self-eq0.false)), tt)

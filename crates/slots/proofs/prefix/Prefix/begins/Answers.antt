@@ -14,7 +14,7 @@ returns c =
     let size : length p.bytes ≡ max_prefix_len = search rules in
     let n : chain_at + p.len - chain_at ≡ length (take p.len p.bytes) = simp length-take (omega (arith, p.within, size)) in
     let m : p.len - 0 ≡ p.len = omega arith in
-    let whole = eq-eqb (length s) slot_len c.if-slot-ne-SLOT-LEN.false in
+    let whole = eq-eqb (length s) slot_len c.if-slot-ne-SLOT_LEN.false in
     let first = le-leb _ _ c.if-slot-self.false in
     let last = le-leb _ _ c.if-slot-self-2.false in
     same_from_decides _ _ (slice_eq-Decides _ _ _ c.eq.ensures) (identifier_decides _ _)

@@ -11,10 +11,10 @@ returns-in-Some g c =
     let a = put_old g.R.Keyed.named g.R.Keyed.same g.met.R.Keyed.decides max_rows t.rows.now t.count c.requires c.in-Some.i c.args.row p.0 (rw c.key-key.ensures at p.1) in
     record { change = a.change; sound = a.sound; rest = a.past }
 
-pub returns-in-Some-free-place : goal.returns-in-Some-free-place
-returns-in-Some-free-place g c =
+pub returns-in-Some-free_place : goal.returns-in-Some-free_place
+returns-in-Some-free_place g c =
     let t = c.args.self.now in
-    let f = c.in-Some-free-place.ensures in
+    let f = c.in-Some-free_place.ensures in
     let space : t.count < usable t.rows.now = subst (λ n. n < usable t.rows.now) f.0 f.1 in
     let a =
     after_same g.R.Keyed.named g.R.Keyed.same max_rows t.rows.now _ _ _ _ _
@@ -22,8 +22,8 @@ returns-in-Some-free-place g c =
     (put_new g.R.Keyed.named g.R.Keyed.same g.met.R.Keyed.decides max_rows t.rows.now t.count c.requires c.args.row space (rw c.key-key.ensures at c.in-None.ensures)) in
     record { change = a.change; sound = a.sound; rest = a.past }
 
-pub returns-in-None-free-place : goal.returns-in-None-free-place
-returns-in-None-free-place g c =
+pub returns-in-None-free_place : goal.returns-in-None-free_place
+returns-in-None-free_place g c =
     let t = c.args.self.now in
-    let a = put_full g.R.Keyed.named g.R.Keyed.same g.met.R.Keyed.decides max_rows t.rows.now t.count c.requires c.args.row c.in-None-free-place.ensures (rw c.key-key.ensures at c.in-None.ensures) in
+    let a = put_full g.R.Keyed.named g.R.Keyed.same g.met.R.Keyed.decides max_rows t.rows.now t.count c.requires c.args.row c.in-None-free_place.ensures (rw c.key-key.ensures at c.in-None.ensures) in
     record { change = a.change; sound = a.sound; rest = a.past }

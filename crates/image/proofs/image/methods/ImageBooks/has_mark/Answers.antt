@@ -9,4 +9,4 @@ pub returns : goal.returns
 returns c =
     let t = c.args.self.now in
     let k = by_mark (mark_value c.args.mark.now) in
-    c.is-some.ensures ∙ some_located t.memory.bytes.now t.sound k c.locate.result (subst (λ bs. Located (has_key k) bs c.locate.result) c.bytes.ensures c.locate.ensures)
+    c.is_some.ensures ∙ some_located t.memory.bytes.now t.sound k c.locate.result (subst (λ bs. Located (has_key k) bs c.locate.result) c.bytes.ensures c.locate.ensures)

@@ -17,9 +17,9 @@ returns-in-Some c =
     let k = by_name (name_value c.args.name.now) in
     let i = c.in-Some.i in
     let h = subst (λ z. Located (has_key k) z (Some i)) c.bytes.ensures c.in-Some.ensures in
-    let e : row_in c.slot-at.result.now ≡ look (cells bs) k
-    = ap row_in (c.slot-at.ensures ∙ ap (λ z. get_or (slots z) i []) c.bytes-in-Some.ensures) ∙ located bs t.sound k i h.0 h.1 in
-    let r = outgoing_found (name_value c.args.name.now) (look (cells bs) k) (look_of (cells bs) k) c.decode-outgoing.result (c.decode-outgoing.ensures ∙ ap outgoing_part e) in
+    let e : row_in c.slot_at.result.now ≡ look (cells bs) k
+    = ap row_in (c.slot_at.ensures ∙ ap (λ z. get_or (slots z) i []) c.bytes-in-Some.ensures) ∙ located bs t.sound k i h.0 h.1 in
+    let r = outgoing_found (name_value c.args.name.now) (look (cells bs) k) (look_of (cells bs) k) c.decode_outgoing.result (c.decode_outgoing.ensures ∙ ap outgoing_part e) in
     record { value = r.0; key = r.1 }
 
 pub returns-in-None : goal.returns-in-None

@@ -17,9 +17,9 @@ returns-in-Some c =
     let k = by_identifier (identifier_value c.args.chain.now) in
     let i = c.in-Some.i in
     let h = subst (λ z. Located (has_key k) z (Some i)) c.bytes.ensures c.in-Some.ensures in
-    let e : row_in c.slot-at.result.now ≡ look (cells bs) k
-    = ap row_in (c.slot-at.ensures ∙ ap (λ z. get_or (slots z) i []) c.bytes-in-Some.ensures) ∙ located bs t.sound k i h.0 h.1 in
-    let r = record_found (identifier_value c.args.chain.now) (look (cells bs) k) (look_of (cells bs) k) c.decode-record.result (c.decode-record.ensures ∙ ap record_part e) in
+    let e : row_in c.slot_at.result.now ≡ look (cells bs) k
+    = ap row_in (c.slot_at.ensures ∙ ap (λ z. get_or (slots z) i []) c.bytes-in-Some.ensures) ∙ located bs t.sound k i h.0 h.1 in
+    let r = record_found (identifier_value c.args.chain.now) (look (cells bs) k) (look_of (cells bs) k) c.decode_record.result (c.decode_record.ensures ∙ ap record_part e) in
     record { value = r.0; key = r.1 }
 
 pub returns-in-None : goal.returns-in-None
