@@ -20,10 +20,10 @@ returns c =
       | then-rest-ge-LENGTH_AT w ↦
           c.compress-2.ensures
           ∙ ap₂ compressed (w.hash-is ∙ w.compress.ensures ∙ ap (compressed c.args.hash.now) first)
-          (c.put-2.ensures ∙ ap (λ b. written b length_at bits) w.block_is)
+          (c.put-2.ensures ∙ ap (λ b. written b length_at bits) w.block-is)
           ∙ last_of_two c.args.hash.now rest bits c.args.count c.requires field (omega (arith, w.if-rest-ge-LENGTH_AT.true))
       | else-rest-ge-LENGTH_AT w ↦
           c.compress-2.ensures
-          ∙ ap₂ compressed w.hash-is (c.put-2.ensures ∙ ap (λ b. written b length_at bits) (w.block_is ∙ first))
+          ∙ ap₂ compressed w.hash-is (c.put-2.ensures ∙ ap (λ b. written b length_at bits) (w.block-is ∙ first))
           ∙ last_of_one c.args.hash.now rest bits c.args.count c.requires field (omega (arith, w.if-rest-ge-LENGTH_AT.false))
     ]
