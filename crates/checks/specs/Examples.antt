@@ -2,7 +2,7 @@
 use Rattle.std.specs.Prelude.{◌≡◌, ℕ, ◌≤◌, List, length, take}
 use Rattle.hash.specs.Sha256.{sha256_of}
 use Rattle.hash.specs.Hmac.{hmac_of}
-use Rattle.hex.specs.Hex.{from_hex}
+use Rattle.hex_text.specs.Hex.{from_hex}
 
 -- a digest, in hexadecimal
 abbrev pub DigestStands : (message digest : List ℕ) → Type 0

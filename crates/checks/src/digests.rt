@@ -19,7 +19,7 @@ impl Example for DigestExample {
     }
 
     fn holds(&self, heap: Global) -> bool {
-        match hex::bytes_of(heap, self.digest) {
+        match hex_text::bytes_of(heap, self.digest) {
             Ok(digest) => digest == hash::sha256(self.message.as_bytes()),
             Err(_) => false,
         }

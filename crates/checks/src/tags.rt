@@ -3,7 +3,7 @@ ghost use Rattle.std.specs.Prelude.{◌≡◌, true, IfOk};
 ghost use Rattle.checks.specs.Examples.{TagStands};
 
 use crate::Example;
-use hex::HexError;
+use hex_text::HexError;
 use std::alloc::Global;
 
 // The fewest bytes of a tag that are published.
@@ -21,9 +21,9 @@ impl TagExample {
     fn agrees(&self, heap: Global) -> Result<bool, HexError>
         ensures { IfOk result (λ b. b ≡ true → TagStands self.now.key.now self.now.«data».now self.now.tag.now) }
     {
-        let key = hex::bytes_of(heap, self.key)?;
-        let data = hex::bytes_of(heap, self.data)?;
-        let tag = hex::bytes_of(heap, self.tag)?;
+        let key = hex_text::bytes_of(heap, self.key)?;
+        let data = hex_text::bytes_of(heap, self.data)?;
+        let tag = hex_text::bytes_of(heap, self.tag)?;
         if tag.len() < SHORTEST_TAG {
             return Ok(false);
         }

@@ -96,7 +96,7 @@ fn run(rt: &HostRuntime) -> anyhow::Result<()> {
             [kind, scheme, text] => (*kind, *scheme, *text),
             _ => return Err(anyhow!("a line has two or three words")),
         };
-        match hex::bytes_of(rt.alloc(), text) {
+        match hex_text::bytes_of(rt.alloc(), text) {
             Ok(frame) => show_frame(rt, kind, scheme, frame.as_slice())?,
             Err(_) => return Err(anyhow!("a frame is not in hexadecimal")),
         }

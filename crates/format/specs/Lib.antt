@@ -9,3 +9,4 @@ pub mod Meaning
 pub mod Writing
 pub mod Composing
 pub mod Same
+pub mod Equivalences

@@ -8,7 +8,7 @@ use crate::show::{Offset, Words};
 use crate::{frames, tally};
 use format::layout::MAX_BLOCK_LEN;
 use format::{Block, Command, ComposeFault, Digest, Identifier, compose};
-use hex::Hex;
+use hex_text::Hex;
 use seals::{Seals, Secret, Tags};
 use store::{Dotted, show_examples};
 

@@ -1,7 +1,7 @@
 //! Showing what is in a frame.
 use crate::show::{CommandWords, ReadWords};
 use format::layout::MAX_COMMANDS;
-use hex::Hex;
+use hex_text::Hex;
 use reading::{
     Certificate, Cursor, Head, MAX_SEALS, Part, ReadFault, read_block, read_certificate,
     read_request,

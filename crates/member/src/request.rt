@@ -146,7 +146,7 @@ fn stock_steps(heap: Global, words: &[&str]) -> Result<Vec<Asked>, RequestFault>
 }
 
 fn seal_bytes(heap: Global, word: &str) -> Result<Vec<u8>, RequestFault> {
-    match hex::bytes_of(heap, word) {
+    match hex_text::bytes_of(heap, word) {
         Ok(bytes) => Ok(bytes),
         Err(_) => Err(RequestFault::NotUnderstood(ParseFault::Seal)),
     }
@@ -168,7 +168,7 @@ fn frame_bytes(rt: &HostRuntime, word: &str) -> Result<Vec<u8>, RequestFault> {
             Err(_) => Err(RequestFault::NotUnderstood(ParseFault::File)),
         };
     }
-    match hex::bytes_of(rt.alloc(), word) {
+    match hex_text::bytes_of(rt.alloc(), word) {
         Ok(bytes) => Ok(bytes),
         Err(_) => Err(RequestFault::NotUnderstood(ParseFault::Frame)),
     }

@@ -1,7 +1,7 @@
 //! Rows as lines of text. Keys have 8 hexadecimal digits and digests 64; other numbers are decimal.
 use books::{Load, Mark, Outgoing, Record, Sign};
 use format::{Digest, Identifier, Message, Name};
-use hex::Hex;
+use hex_text::Hex;
 use std::fmt;
 
 /// An identifier as its numbers, joined by dots.

@@ -1,7 +1,7 @@
 use Rattle.std.proofs.Common.{◌≡◌, length, take, sym, ap, ◌∙◌, ap₂, arith}
 use Rattle.std.proofs.lemmas.Slice.Eq.{slice_eq-Decides}
 use Rattle.hash.specs.Hmac.{hmac_of}
-use Rattle.hex.specs.Hex.{from_hex}
+use Rattle.hex_text.specs.Hex.{from_hex}
 use Rattle.checks.proofs.tags.TagExample.agrees.Goals as goal
 
 pub returns : goal.returns

@@ -1,7 +1,7 @@
 use Rattle.std.proofs.Common.{◌≡◌, ℕ, ◌<◌, map, take, vec_items}
-use Rattle.hex.specs.Hex.{byte_of}
-use Rattle.hex.proofs.Pairs.{DigitsOf}
-use Rattle.hex.proofs.bytes_of.Given as goal
+use Rattle.hex_text.specs.Hex.{byte_of}
+use Rattle.hex_text.proofs.Pairs.{DigitsOf}
+use Rattle.hex_text.proofs.bytes_of.Given as goal
 
 -- the bytes of the pairs so far, which are digits
 abbrev pub invariant-loop-pair : goal.invariant-loop-pair

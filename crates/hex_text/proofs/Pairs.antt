@@ -3,7 +3,7 @@ use Rattle.std.proofs.Common.{◌≡◌, ℕ, zero, suc, ◌+◌, ◌*◌, ◌/�
 use Rattle.std.proofs.lemmas.List.{get_or-take, get_or-drop}
 use Rattle.std.specs.Char.{digit_value}
 use Rattle.std.specs.Simd.{first_chunks}
-use Rattle.hex.specs.Hex.{base, AllDigits, SomeOther}
+use Rattle.hex_text.specs.Hex.{base, AllDigits, SomeOther}
 
 -- a digit of a pair stands in the text
 in_pair : (k : ℕ) (text : List ℕ) (p j : ℕ) → p < k → j < 2 → get_or (get_or (first_chunks 2 k text) p []) j 0 ≡ get_or text (2 * p + j) 0

@@ -3,11 +3,11 @@ use Rattle.std.specs.Char.{digit_value}
 use Rattle.std.specs.Simd.{first_chunks}
 use Rattle.std.proofs.lemmas.List.{map_more, take_all}
 use Rattle.std.proofs.lemmas.Slice.{pushed}
-use Rattle.hex.specs.Hex.{byte_of, base, Paired, RefusedFor}
-use Rattle.hex.specs.declared.HexError.{HexError}
-use Rattle.hex.specs.declared.HexError.TheVariants.{NoMemory}
-use Rattle.hex.proofs.Pairs.{DigitsOf, pairs_digits, other_in_pair}
-use Rattle.hex.proofs.bytes_of.Goals as goal
+use Rattle.hex_text.specs.Hex.{byte_of, base, Paired, RefusedFor}
+use Rattle.hex_text.specs.declared.HexError.{HexError}
+use Rattle.hex_text.specs.declared.HexError.TheVariants.{NoMemory}
+use Rattle.hex_text.proofs.Pairs.{DigitsOf, pairs_digits, other_in_pair}
+use Rattle.hex_text.proofs.bytes_of.Goals as goal
 
 -- one more pair of digits
 one_more : (pairs : List (List ℕ)) (i h l : ℕ) (bytes : List ℕ) → i < length pairs

@@ -2,8 +2,8 @@
 #![tactic(auto)]
 ghost use Rattle.std.specs.Prelude.{◌≡◌, ◌<◌, ◌≤◌, MatchResult};
 ghost use Rattle.std.specs.Char.{digit_value};
-ghost use Rattle.hex.specs.declared.HexError.TheVariants.{NoDigit, NoMemory};
-ghost use Rattle.hex.specs.Hex.{Read, RefusedFor, base};
+ghost use Rattle.hex_text.specs.declared.HexError.TheVariants.{NoDigit, NoMemory};
+ghost use Rattle.hex_text.specs.Hex.{Read, RefusedFor, base};
 
 use std::alloc::{AllocError, AllocFailed, Global};
 use std::fmt;

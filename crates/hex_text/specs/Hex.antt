@@ -2,8 +2,8 @@
 use Rattle.std.specs.Prelude.{◌≡◌, ℕ, ◌+◌, ◌*◌, ◌/◌, ◌%◌, ◌<◌, ◌≤◌, List, map, length, slice_index}
 use Rattle.std.specs.Char.{digit_value}
 use Rattle.std.specs.Simd.{first_chunks}
-use Rattle.hex.specs.declared.HexError.{HexError}
-use Rattle.hex.specs.declared.HexError.TheVariants.{NoDigit, Odd, NoMemory}
+use Rattle.hex_text.specs.declared.HexError.{HexError}
+use Rattle.hex_text.specs.declared.HexError.TheVariants.{NoDigit, Odd, NoMemory}
 
 -- the byte that two digits write
 abbrev pub byte_of : List ℕ → ℕ
