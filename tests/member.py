@@ -61,9 +61,6 @@ tag 00000009 {SECRET} {FIRST} {tag(SECRET, FIRST)}
 tag 00000009 {FIRST} {FIRST} {tag(SECRET, FIRST)}
 tag 00000009 {SECRET} {FIRST} {tag(SECRET, FIRST)[:62]}
 
-# A few rows in books of each make.
-store
-
 # Frames.
 """
 
@@ -222,91 +219,10 @@ def tag_lines(key, secret, digest, seal):
     return [f"The tag of key {key} over digest {over} is {'right' if seal == tag(secret, over) else 'wrong'}"]
 
 
-# The rows of the example: records, marks (target, sender, height, index, code, value), and outgoing rows by their names.
-RECORDS = [
-    ((0,), 5, 3, "11" * 32, 3, 1, None),
-    ((2, 7), 0x0A0B0C0D, 65535, "22" * 32, -1, 1000000000, "33" * 32),
-    ((1,), 0, 0, "00" * 32, 0, 0, None),
-    ((3, 1), 9, 0, "00" * 32, 0, 0, None),
-]
-MARKS = [
-    ("plus", (0,), (1,), 65534, 15, 1, -500),
-    ("minus", (1,), (2, 7), 0, 0, 2, 40),
-    ("minus", (2, 7), (2,), 8, 1, 255, 0),
-]
-OUTGOING = [
-    ("opening", (2,), 7, 0, (2, 7), 5),
-    ("message", (2, 7), 3, 0, (1,), 2, 1000),
-    ("message", (1,), 3, 2, (0,), 1, -12),
-]
-
-
-def record_line(row):
-    chain, owner, following, digest, a, b, vote = row
-    return f"record {dotted(chain)} {owner:08x} {following} {digest} {a} {b} {vote or 'none'}"
-
-
-def mark_line(row):
-    sign, target, sender, *rest = row
-    return f"{sign} {dotted(target)} {dotted(sender)} {' '.join(map(str, rest))}"
-
-
-def outgoing_line(row):
-    word, sender, height, index, target, *load = row
-    last = f"{load[0]:08x}" if word == "opening" else f"{load[0]} {load[1]}"
-    return f"{word} {dotted(sender)} {height} {index} {dotted(target)} {last}"
-
-
-KINDS = [(RECORDS, record_line, lambda row: row[0]), (MARKS, mark_line, lambda row: row[1]), (OUTGOING, outgoing_line, lambda row: row[1])]
-
-
-def store_lines(title, sizes, side):
-    """Books of one worker, or of two with as many places each: a row lies on the side of its chain's first number."""
-    refused, held, used = [], [], [[0, 0] for _ in KINDS]
-    for (rows, line, chain), size, count in zip(KINDS, sizes, used):
-        for row in rows:
-            where = side(chain(row)[0])
-            if count[where] == size:
-                refused.append(f"no place for {line(row)}")
-            else:
-                count[where] += 1
-                held.append((line(row), row))
-    first = min((row for _, row in held if row in OUTGOING), key=lambda row: (row[2], row[1], row[3]))
-    free = [f"free {' '.join(str(size - count[side(number)]) for size, count in zip(sizes, used))}" for number in (0, 1)]
-    return [title] + refused + [text for text, _ in held] + [f"waiting {outgoing_line(first)}"] + free
-
-
-def image_lines(title, slots):
-    """Books in slots that rows of any kind share."""
-    refused, held = [], []
-    for rows, line, _ in KINDS:
-        for row in rows:
-            if len(held) == slots:
-                refused.append(f"no place for {line(row)}")
-            else:
-                held.append((line(row), row))
-    first = min((row for _, row in held if row in OUTGOING), key=lambda row: (row[2], row[1], row[3]))
-    left = slots - len(held)
-    return [title] + refused + [text for text, _ in held] + [f"waiting {outgoing_line(first)}"] + [f"free {left} {left} {left}"] * 2
-
-
-def examples():
-    return (
-        store_lines("Store in tables:", (3, 2, 4), lambda number: 0)
-        + store_lines("Store of two workers, each with tables:", (2, 2, 2), lambda number: number % 2)
-        + image_lines("Store in an image of bytes:", 11)
-    )
-
-
-WORDS = ("ring", "compose", "request", "certificate", "tally", "stock", "tag", "store")
-
-
 def answer_lines(words):
     kind = words[0]
-    if kind not in WORDS:
-        raise NotUnderstood(f"the first word is none of {', '.join(WORDS[:-1])} and {WORDS[-1]}")
-    if kind == "store":
-        return examples()
+    if kind not in ("ring", "compose", "request", "certificate", "tally", "stock", "tag"):
+        raise NotUnderstood("the first word is none of ring, compose, request, certificate, tally, stock and tag")
     if kind == "tally":
         return ring_lines([signed_number(word) for word in words[1:]])
     if kind == "stock":

@@ -78,8 +78,8 @@ pub fn faulty(members: &[Member]) -> Option<u32>
     if !is_committee(members) {
         return None;
     }
-    let total = total(members);
-    Some(total.saturating_sub(1) / 3)
+    let others = total(members).saturating_sub(1);
+    Some(others / 3)
 }
 
 /// The weight that a certificate needs: N - f, where N is the sum of the weights and f is (N - 1) / 3, rounded down. None

@@ -1,9 +1,8 @@
 //! Bytes as hexadecimal text, two digits each.
 #![tactic(auto)]
-ghost use Rattle.std.specs.Prelude.{◌≡◌, ◌<◌, ◌≤◌, MatchResult};
+ghost use Rattle.std.specs.Prelude.{◌≡◌, ◌<◌, IfOk};
 ghost use Rattle.std.specs.Char.{digit_value};
-ghost use Rattle.hex_text.specs.declared.HexError.TheVariants.{NoDigit, NoMemory};
-ghost use Rattle.hex_text.specs.Hex.{Read, RefusedFor, base};
+ghost use Rattle.hex_text.specs.Hex.{from_hex};
 
 use std::alloc::{AllocError, AllocFailed, Global};
 use std::fmt;
@@ -17,23 +16,19 @@ pub enum HexError {
 }
 
 impl From<AllocError> for HexError {
-    ghost from_gives = { λ _ r. r ≡ NoMemory };
-
     fn from(_error: AllocError) -> HexError {
         HexError::NoMemory
     }
 }
 
 impl<T: Drop> From<AllocFailed<T>> for HexError {
-    ghost from_gives = { λ _ r. r ≡ NoMemory };
-
     fn from(_refused: AllocFailed<T>) -> HexError {
         HexError::NoMemory
     }
 }
 
 fn digit(c: u8) -> Result<u8, HexError>
-    ensures { MatchResult result (λ d. (d < base) × (d ≡ digit_value c)) (λ e. (e ≡ NoDigit) × (base ≤ digit_value c)) }
+    ensures { IfOk result (λ d. (d < 16) × (d ≡ digit_value c)) }
 {
     match (c as char).to_digit(16) {
         Some(d) => Ok(d as u8),
@@ -41,10 +36,9 @@ fn digit(c: u8) -> Result<u8, HexError>
     }
 }
 
-/// The bytes that a text writes. It is refused as odd exactly if it has an odd number of characters, and else for a
-/// character that is no digit only if it has one.
+/// The bytes that a text writes.
 pub fn bytes_of(heap: Global, text: &str) -> Result<Vec<u8>, HexError>
-    ensures { MatchResult result (λ v. Read text.now v.items) (RefusedFor text.now) }
+    ensures { IfOk result (λ v. v.items ≡ from_hex text.now) }
 {
     let (pairs, rest) = text.as_bytes().as_chunks::<2>();
     if rest.len() > 0 {

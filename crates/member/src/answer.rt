@@ -4,13 +4,12 @@ ghost use Rattle.format.specs.Meaning.{block_value};
 ghost use Rattle.member.specs.Encoding.{Encodes};
 
 use crate::request::{Draft, Request, RequestFault, read_line};
-use crate::show::{Offset, Words};
+use crate::show::{Dotted, Offset, Words};
 use crate::{frames, tally};
 use format::layout::MAX_BLOCK_LEN;
 use format::{Block, Command, ComposeFault, Digest, Identifier, compose};
 use hex_text::Hex;
 use seals::{Seals, Secret, Tags};
-use store::{Dotted, show_examples};
 
 /// The length of a block in a buffer, and its digest.
 #[derive(Clone, Copy)]
@@ -109,7 +108,6 @@ pub(crate) fn answer(rt: &HostRuntime, number: u64, line: &str) -> anyhow::Resul
             framed.scheme,
             framed.frame.as_slice(),
         ),
-        Ok(Request::ShowStore) => show_examples(rt),
         Ok(Request::TallyRings { steps }) => tally::rings(rt, steps.as_slice()),
         Ok(Request::TallyStock { steps }) => tally::stock(rt, steps.as_slice()),
         Ok(

@@ -1,5 +1,5 @@
 //! Showing what is in a frame.
-use crate::show::{CommandWords, ReadWords};
+use crate::show::{CommandWords, Dotted, ReadWords};
 use format::layout::MAX_COMMANDS;
 use hex_text::Hex;
 use reading::{
@@ -7,7 +7,6 @@ use reading::{
     read_request,
 };
 use seals::{CheckedList, Seals, Tags};
-use store::Dotted;
 
 /// A scheme of seals, by which a frame is read.
 #[derive(Clone, Copy)]

@@ -1,7 +1,7 @@
 //! Values from text.
 ghost use Rattle.std.specs.Prelude.{◌<◌, IfSome};
 
-use applications::Asked;
+use crate::tally::Asked;
 use format::layout::{DIGEST_LEN, MAX_DEPTH};
 use format::{Command, Digest, Height, Identifier, Key, Message, Name};
 use seals::SECRET_LEN;
@@ -31,7 +31,7 @@ impl fmt::Display for ParseFault {
         match self {
             ParseFault::Word => write!(
                 f,
-                "the first word is none of ring, compose, request, certificate, tally, stock, tag and store"
+                "the first word is none of ring, compose, request, certificate, tally, stock and tag"
             ),
             ParseFault::Scheme => write!(f, "a scheme of seals is tag or list"),
             ParseFault::Frame => write!(
@@ -187,70 +187,45 @@ pub(crate) fn stock_step(text: &str) -> Result<Asked, ParseFault> {
     }
 }
 
-fn open(operands: &[&str]) -> Result<Command, ParseFault> {
-    let [child, owner] = operands else {
-        return Err(ParseFault::Command);
+/// A command, its operands joined by colons.
+pub(crate) fn command(text: &str) -> Result<Command, ParseFault> {
+    let mut parts = text.split(':');
+    let found = match parts.next() {
+        Some("open") => Command::Open {
+            child: identifier(operand(parts.next())?)?,
+            key: key(operand(parts.next())?)?,
+        },
+        Some("change") => Command::Change {
+            key: key(operand(parts.next())?)?,
+        },
+        Some("close") => Command::Close,
+        Some("execute") => Command::Execute {
+            code: byte(operand(parts.next())?)?,
+            argument: signed(operand(parts.next())?)?,
+            target: identifier(operand(parts.next())?)?,
+        },
+        Some("receive") => Command::Receive {
+            message: Message {
+                name: Name {
+                    sender: identifier(operand(parts.next())?)?,
+                    height: height(operand(parts.next())?)?,
+                    index: byte(operand(parts.next())?)?,
+                },
+                code: byte(operand(parts.next())?)?,
+                value: signed(operand(parts.next())?)?,
+            },
+        },
+        _ => return Err(ParseFault::Command),
     };
-    Ok(Command::Open {
-        child: identifier(child)?,
-        key: key(owner)?,
-    })
-}
-
-fn change(operands: &[&str]) -> Result<Command, ParseFault> {
-    let [owner] = operands else {
-        return Err(ParseFault::Command);
-    };
-    Ok(Command::Change { key: key(owner)? })
-}
-
-fn close(operands: &[&str]) -> Result<Command, ParseFault> {
-    if operands.is_empty() {
-        Ok(Command::Close)
-    } else {
-        Err(ParseFault::Command)
+    match parts.next() {
+        None => Ok(found),
+        Some(_) => Err(ParseFault::Command),
     }
 }
 
-fn execute(operands: &[&str]) -> Result<Command, ParseFault> {
-    let [code, argument, target] = operands else {
-        return Err(ParseFault::Command);
-    };
-    Ok(Command::Execute {
-        code: byte(code)?,
-        argument: signed(argument)?,
-        target: identifier(target)?,
-    })
-}
-
-fn receive(operands: &[&str]) -> Result<Command, ParseFault> {
-    let [sender, at, index, code, value] = operands else {
-        return Err(ParseFault::Command);
-    };
-    let name = Name {
-        sender: identifier(sender)?,
-        height: height(at)?,
-        index: byte(index)?,
-    };
-    let message = Message {
-        name,
-        code: byte(code)?,
-        value: signed(value)?,
-    };
-    Ok(Command::Receive { message })
-}
-
-/// A command, by its word and its operands.
-pub(crate) fn command(parts: &[&str]) -> Result<Command, ParseFault> {
-    let [word, operands @ ..] = parts else {
-        return Err(ParseFault::Command);
-    };
-    match *word {
-        "open" => open(operands),
-        "change" => change(operands),
-        "close" => close(operands),
-        "execute" => execute(operands),
-        "receive" => receive(operands),
-        _ => Err(ParseFault::Command),
+fn operand<'a>(part: Option<&'a str>) -> Result<&'a str, ParseFault> {
+    match part {
+        Some(text) => Ok(text),
+        None => Err(ParseFault::Command),
     }
 }

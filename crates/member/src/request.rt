@@ -2,7 +2,7 @@
 use crate::frames::Scheme;
 use crate::parse;
 use crate::parse::ParseFault;
-use applications::Asked;
+use crate::tally::Asked;
 use format::{Command, Digest, Height, Identifier};
 use seals::Secret;
 use std::alloc::{AllocError, AllocFailed, Global};
@@ -47,8 +47,6 @@ pub enum Request {
     ShowRequest(Framed),
     /// What is in a certificate frame.
     ShowCertificate(Framed),
-    /// The example rows in books of each make.
-    ShowStore,
     /// The tally of ring records.
     TallyRings {
         steps: Vec<Asked>,
@@ -112,15 +110,9 @@ fn rings(mut draft: Draft, target: Identifier, offsets: &[&str]) -> Result<Reque
     Ok(Request::Rings { draft, target })
 }
 
-// A command, its operands joined by colons.
-fn command(heap: Global, word: &str) -> Result<Command, RequestFault> {
-    let parts: Vec<&str> = word.split(':').collect(heap)?;
-    Ok(parse::command(parts.as_slice())?)
-}
-
-fn commands(heap: Global, mut draft: Draft, words: &[&str]) -> Result<Request, RequestFault> {
+fn commands(mut draft: Draft, words: &[&str]) -> Result<Request, RequestFault> {
     for word in words {
-        draft.commands.push(command(heap, word)?)?;
+        draft.commands.push(parse::command(word)?)?;
     }
     Ok(Request::Compose { draft })
 }
@@ -186,7 +178,7 @@ fn any_block(heap: Global, words: &[&str]) -> Result<Request, RequestFault> {
     let [chain, height, previous, words @ ..] = words else {
         return Err(RequestFault::NotUnderstood(ParseFault::Missing));
     };
-    commands(heap, head(heap, chain, height, previous)?, words)
+    commands(head(heap, chain, height, previous)?, words)
 }
 
 fn read_frame(rt: &HostRuntime, words: &[&str]) -> Result<Framed, RequestFault> {
@@ -227,7 +219,6 @@ fn by_word(rt: &HostRuntime, first: &str, words: &[&str]) -> Result<Request, Req
             steps: stock_steps(heap, words)?,
         }),
         "tag" => tag(heap, words),
-        "store" => Ok(Request::ShowStore),
         _ => Err(RequestFault::NotUnderstood(ParseFault::Word)),
     }
 }

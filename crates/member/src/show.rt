@@ -1,8 +1,23 @@
 //! Values as text.
-use format::{Command, ComposeFault};
+use format::{Command, ComposeFault, Identifier};
 use reading::ReadFault;
 use std::fmt;
-use store::Dotted;
+
+/// An identifier as its numbers, joined by dots.
+#[derive(Drop)]
+pub struct Dotted<'a>(pub &'a Identifier);
+
+impl fmt::Display for Dotted<'_> {
+    fn fmt<W: fmt::Write>(&self, f: &mut fmt::Formatter<W>) -> fmt::Result {
+        for (i, number) in self.0.numbers().iter().enumerate() {
+            if i > 0 {
+                write!(f, ".")?;
+            }
+            write!(f, "{number}")?;
+        }
+        Ok(())
+    }
+}
 
 /// Where a ring lies, by its offset in millimetres; left is negative.
 #[derive(Drop)]
