@@ -1,7 +1,7 @@
 -- The order of outgoing rows is strict and total, and one row is the least.
-use Rattle.std.proofs.Common.{◌≡◌, ℕ, ◌<◌, true, false, ◌⊎◌, List, [], ◌∷◌, Some, None, Ordering, Less, Equal, Greater, sym, refl, ap, ◌∙◌, inl, inr, arith}
-use Rattle.std.specs.Cmp.Lexicographic.{Lex}
-use Rattle.std.specs.Ordering.{MatchOrdering, is_lt, ordering_then, ordering_reverse}
+use Rattle.std.proofs.Common.{◌≡◌, ℕ, ◌<◌, true, false, ◌⊎◌, List, [], ◌∷◌, Some, None, Ordering, Less, Equal, Greater, sym, refl, ap, ap₂, ◌∙◌, inl, inr, arith}
+use Rattle.std.specs.Cmp.Lexicographic.{slice_cmp}
+use Rattle.std.specs.Ordering.{nat_cmp, is_lt, ordering_then, ordering_reverse}
 use Rattle.std.proofs.lemmas.Bool.{both_ways, cases_Bool}
 use Rattle.std.proofs.lemmas.Bool.Decides.{nat_tests}
 use Rattle.format.specs.Values.{IdentifierValue}
@@ -10,22 +10,14 @@ use Rattle.books.specs.Values.{EntryValue}
 use Rattle.books.specs.Order.{order_numbers, order_identifiers, order, before, StrictOrder, LeastIsOne}
 
 -- what `cmp` answers
-pub numbers_ranked : (m n : ℕ) (o : Ordering) → MatchOrdering o (m < n) (m ≡ n) (n < m) → o ≡ order_numbers m n
-numbers_ranked m n o h = grind (arith, nat_tests)
+pub numbers_ranked : (m n : ℕ) → nat_cmp m n ≡ order_numbers m n
+numbers_ranked m n = grind (arith, nat_tests)
 
-abbrev Ranks : List ℕ → List ℕ → Ordering → Type 0
-Ranks = Lex (λ m n r. MatchOrdering r (m < n) (m ≡ n) (n < m))
-
-pub identifiers_ranked : (xs ys : List ℕ) (o : Ordering) → Ranks xs ys o → o ≡ order_identifiers xs ys
-identifiers_ranked [] [] o h = h
-identifiers_ranked [] (y ∷ ys) o h = h
-identifiers_ranked (x ∷ xs) [] o h = h
-identifiers_ranked (x ∷ xs) (y ∷ ys) o h = by (identifiers_ranked xs ys o) h.0 h.2 ∙ ap (λ p. ordering_then p (order_identifiers xs ys)) (numbers_ranked x y h.0 h.1)
-  where
-    by : (Ranks xs ys o → o ≡ order_identifiers xs ys) → (p : Ordering) → MatchOrdering p (o ≡ Less) (Ranks xs ys o) (o ≡ Greater) → o ≡ ordering_then p (order_identifiers xs ys)
-    by rest Less k = k
-    by rest Equal k = rest k
-    by rest Greater k = k
+pub identifiers_ranked : (xs ys : List ℕ) → slice_cmp nat_cmp xs ys ≡ order_identifiers xs ys
+identifiers_ranked [] [] = refl
+identifiers_ranked [] (y ∷ ys) = refl
+identifiers_ranked (x ∷ xs) [] = refl
+identifiers_ranked (x ∷ xs) (y ∷ ys) = ap₂ ordering_then (numbers_ranked x y) (identifiers_ranked xs ys)
 
 -- ---- orders one after another
 then_equal : (o p : Ordering) → ordering_then o p ≡ Equal → (o ≡ Equal) × (p ≡ Equal)

@@ -1,16 +1,15 @@
 //! When two marks are equal.
-ghost use Rattle.std.specs.Prelude.{◌≡◌};
 ghost use Rattle.books.specs.Meaning.{mark_value, sign_value};
 ghost use Rattle.books.specs.Same.{same_mark, same_sign};
-ghost use Rattle.std.specs.Cmp.Rules.{comparing};
-ghost use Rattle.std.proofs.Common.{rules};
+ghost use Rattle.books.specs.Equivalences.{mark_per, sign_per};
+ghost use Rattle.std.specs.Cmp.{on_per};
 
 use crate::rows::{Mark, Sign};
 
-impl PartialEq<Sign> for Sign {
-    ghost equals = { λ x y r. r ≡ same_sign (sign_value x) (sign_value y) };
+impl PartialEq for Sign {
+    ghost eq = { λ x y. same_sign (sign_value x) (sign_value y) };
 
-    ghost laws = { Prim.search (comparing, rules) };
+    ghost laws = { on_per sign_value sign_per };
 
     fn eq(&self, other: &Sign) -> bool {
         match (self, other) {
@@ -21,10 +20,10 @@ impl PartialEq<Sign> for Sign {
     }
 }
 
-impl PartialEq<Mark> for Mark {
-    ghost equals = { λ x y r. r ≡ same_mark (mark_value x) (mark_value y) };
+impl PartialEq for Mark {
+    ghost eq = { λ x y. same_mark (mark_value x) (mark_value y) };
 
-    ghost laws = { Prim.search (comparing, rules) };
+    ghost laws = { on_per mark_value mark_per };
 
     fn eq(&self, other: &Mark) -> bool {
         self.target == other.target && self.message == other.message && self.sign == other.sign

@@ -1,5 +1,6 @@
 //! The committee: its rules, its quorum, and the weight of members by their numbers.
 #![tactic(auto)]
+
 ghost use Rattle.std.specs.Prelude.{◌≡◌, ◌*◌, ◌≤◌, not, ◌&&◌, length};
 ghost use Rattle.committee.specs.Meaning.{member_value, members_value};
 ghost use Rattle.committee.specs.Rules.{committee_allowed, has_key, max_members, member_allowed};

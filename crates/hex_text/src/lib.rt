@@ -1,5 +1,6 @@
 //! Bytes as hexadecimal text, two digits each.
 #![tactic(auto)]
+
 ghost use Rattle.std.specs.Prelude.{◌≡◌, ◌<◌, IfOk};
 ghost use Rattle.std.specs.Char.{digit_value};
 ghost use Rattle.hex_text.specs.Hex.{from_hex};

@@ -1,5 +1,6 @@
 //! Seals: what shows that the holder of a key vouches for a digest.
 #![tactic(auto)]
+
 ghost use Rattle.std.specs.Prelude.{◌≡◌, ℕ};
 ghost use Rattle.format.specs.Meaning.{digest_value};
 ghost use Rattle.seals.specs.Meaning.{Holds, Laws};

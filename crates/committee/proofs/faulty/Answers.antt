@@ -6,10 +6,10 @@ use Rattle.committee.proofs.faulty.Goals as goal
 pub returns-then-not-is_committee : goal.returns-then-not-is_committee
 returns-then-not-is_committee c = sym (cond-false _ _ _ (sym c.if-not-is_committee.ensures))
 
-pub total-total-requires : goal.total-total-requires
-total-total-requires c = few_members c.args.members.now c.if-not-is_committee.ensures
+pub total-requires : goal.total-requires
+total-requires c = few_members c.args.members.now c.if-not-is_committee.ensures
 
 pub returns : goal.returns
 returns c =
-    let weight = ap (λ t. t / 3) c.saturating_sub-others.ensures ∙ ap (λ t. (t - 1) / 3) c.total-total.ensures.value in
+    let weight = ap (λ t. t / 3) c.saturating_sub-others.ensures ∙ ap (λ t. (t - 1) / 3) c.total.ensures.value in
     faulty_is c.args.members.now _ c.if-not-is_committee.ensures weight

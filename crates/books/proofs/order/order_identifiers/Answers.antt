@@ -5,5 +5,5 @@ use Rattle.books.proofs.order.order_identifiers.Goals as goal
 
 pub returns : goal.returns
 returns c =
-    identifiers_ranked c.numbers.result.now c.numbers-2.result.now c.cmp.result c.cmp.ensures
+    c.cmp.ensures ∙ identifiers_ranked c.numbers.result.now c.numbers-2.result.now
     ∙ (λ i. order_identifiers (c.numbers.ensures i) (c.numbers-2.ensures i))
