@@ -1,5 +1,6 @@
 //! Two workers' books as one.
 #![tactic(auto)]
+
 ghost use Rattle.split.specs.Joined.{joined, joined_laws};
 
 use books::{Books, Mark, NewRows, Outgoing, Record, Side, earlier_of};

@@ -18,7 +18,7 @@ returns-in_err-request g c =
     let m = g.B.Books.meaning c.args.books.now in
     let f = c.args.frame.now in
     let unread = sym (ap request_answer c.in_err-request.was) ∙ c.read_request.ensures in
-    let p = err_from_is_err_and c.from-residual.result c.from-residual.ensures.1 in
+    let p = err_from_is_err_and c.from_residual.result c.from_residual.ensures.1 in
     let answer = ap call_answer p.1 ∙ ap (λ e. Refused (call_refusal e)) p.2 in
     record {
       change = subst (λ a. Ends (propose C A S m f) m a m) (sym answer) (frame_refused C A S m f (sym c.if-not-is_committee.ensures) (read_refusal c.in_err-request.field-0.0) unread);

@@ -17,7 +17,7 @@ loop-init c =
 
 pub returns-in_err-next : goal.returns-in_err-next
 returns-in_err-next c =
-    let p = err_from_is_err_and c.from-residual.result c.from-residual.ensures.1 in
+    let p = err_from_is_err_and c.from_residual.result c.from_residual.ensures.1 in
     record {
       answer = ap head_answer (p.1 ∙ ap Err p.2) ∙ block_refused _ _ _ (sym c.in-Some.ensures) (sofar_refused _ (cursor_value c.loop.cursor) (cursor_value c.next.new.self) _ c.loop.invariant c.in_err-next.ensures);
       trip = round_trip;

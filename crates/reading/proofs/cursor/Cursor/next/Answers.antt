@@ -16,7 +16,7 @@ pub invariant_of-self : goal.invariant_of-self
 invariant_of-self c =
     let s = c.in-Some.ensures in
     let ok = c.args.self.now.ok in
-    ((simp (length-take, length-drop) (omega (arith, s.len, s.fits, ok.0)), omega (arith, ok.1, c.if-self-eq0.false)), tt)
+    record { ok = (simp (length-take, length-drop) (omega (arith, s.len, s.fits, ok.0)), omega (arith, ok.1, c.if-self-eq0.false)) }
 
 pub returns : goal.returns
 returns c =
