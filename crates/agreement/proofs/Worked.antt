@@ -1,6 +1,6 @@
 -- The worked values.
 use Rattle.std.proofs.Common.{◌≡◌, ◌+◌, ◌*◌, Bool, true, false, List, [], ◌∷◌, length, refl, ap, ◌∙◌, arith, length-append}
-use Rattle.std.specs.List.{flat_map, AllByRecursion as All}
+use Rattle.std.specs.List.{flat_map, AllByRecursion}
 use Rattle.format.specs.Layout.{command_byte_len, receive_len}
 use Rattle.format.specs.Values.{CommandValue, opens, changes, closes, executes, receives}
 use Rattle.format.specs.Bytes.{identifier_bytes, command_bytes, head_bytes, bytes_of}
@@ -30,7 +30,7 @@ rings : WorkedRings
 rings = record { three = (refl, refl, refl); farthest = (refl, refl, refl); too_far = (λ a b. refl, λ a b. refl, λ a b. refl) }
 
 -- a Receive has 22 bytes
-length_receives : (cs : List CommandValue) → All IsReceive cs → length (flat_map command_bytes cs) ≡ (command_byte_len + receive_len) * length cs
+length_receives : (cs : List CommandValue) → AllByRecursion IsReceive cs → length (flat_map command_bytes cs) ≡ (command_byte_len + receive_len) * length cs
 length_receives [] a = refl
 length_receives (opens child key ∷ cs) a = absurd a.0
 length_receives (changes key ∷ cs) a = absurd a.0

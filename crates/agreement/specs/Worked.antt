@@ -1,6 +1,6 @@
 -- Worked values of the definitions.
 use Rattle.std.specs.Prelude.{◌≡◌, ℕ, true, false, List, [], ◌∷◌, length, ℤ, pos, negsuc}
-use Rattle.std.specs.List.{AllByRecursion as All}
+use Rattle.std.specs.List.{AllByRecursion}
 use Rattle.format.specs.Layout.{digest_len, max_commands}
 use Rattle.format.specs.Values.{IdentifierValue, DigestValue, MessageValue, CommandValue, opens, changes, closes, executes, receives, BlockValue}
 use Rattle.format.specs.Bytes.{identifier_bytes, bytes_of}
@@ -48,7 +48,7 @@ IsReceive (receives m) = Unit {0}
 -- A block with no commands has 44 bytes, one with sixteen Receives 396.
 pub record WorkedLengths : Type 0 where
   pub shortest : (b : BlockValue) → length b.previous ≡ digest_len → b.commands ≡ [] → length (bytes_of b) ≡ 44
-  pub longest : (b : BlockValue) → length b.previous ≡ digest_len → All IsReceive b.commands → length b.commands ≡ max_commands → length (bytes_of b) ≡ 396
+  pub longest : (b : BlockValue) → length b.previous ≡ digest_len → AllByRecursion IsReceive b.commands → length b.commands ≡ max_commands → length (bytes_of b) ≡ 396
 
 -- the numbers that a step gives, and what follows; a refusal ends it
 abbrev pub and_on : StepValue → (ℤ → ℤ → List (ℤ × ℤ)) → List (ℤ × ℤ)

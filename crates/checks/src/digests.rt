@@ -20,7 +20,7 @@ impl Example for DigestExample {
 
     fn holds(&self, heap: Global) -> bool {
         match hex_text::bytes_of(heap, self.digest) {
-            Ok(digest) => digest == hash::sha256(self.message.as_bytes()),
+            Ok(digest) => digest.as_slice() == hash::sha256(self.message.as_bytes()).as_slice(),
             Err(_) => false,
         }
     }

@@ -1,5 +1,6 @@
 //! Prints a line for each published example: its number, a blank, and `ok` or `bad`.
 #![tactic(auto)]
+
 ghost use Rattle.std.specs.Prelude.{◌≡◌, true};
 
 mod digests;

@@ -1,6 +1,7 @@
 //! Reads frames, most of them damaged, one to a line, and says of each what is in it or how it is refused.
 //! A line is `request` or `certificate`, the scheme `list` or `tag`, and the frame in hexadecimal.
 #![tactic(auto)]
+
 use anyhow::anyhow;
 use format::layout::MAX_COMMANDS;
 use reading::{

@@ -1,5 +1,6 @@
 //! Why a command and a call are refused. Each layer's fault is carried whole into the next one's.
 #![tactic(auto)]
+
 ghost use Rattle.std.specs.Prelude.{◌≡◌};
 ghost use Rattle.format.specs.Meaning.{refusal_value};
 ghost use Rattle.format.specs.Outcomes.{refusal, refusal_at};

@@ -4,7 +4,7 @@ use Rattle.std.proofs.lemmas.Nat.{div-add-mod', div_below, div-mul-add, mod-mul-
 use Rattle.std.proofs.lemmas.Int.Digits.{number_push, number_lt}
 use Rattle.std.proofs.ByRecursion.{All-get_or, All-take}
 use Rattle.std.proofs.lemmas.List.{nil_from_length, take_all, take_more, length-take-le}
-use Rattle.std.specs.List.{flat_map, AllByRecursion as All}
+use Rattle.std.specs.List.{flat_map, AllByRecursion}
 use Rattle.hash.proofs.Bytes.{word_from_bytes}
 use Rattle.hash.proofs.Lists.{written_out}
 use Rattle.format.specs.Numbers.{to_bytes, from_bytes}
@@ -37,7 +37,7 @@ number_back (suc w) n h =
     ∙ div-add-mod' n 256
 
 -- bytes are written back
-pub bytes_back : (w : ℕ) (bs : List ℕ) → length bs ≡ w → All (λ b. b < 256) bs → to_bytes w (from_bytes bs) ≡ bs
+pub bytes_back : (w : ℕ) (bs : List ℕ) → length bs ≡ w → AllByRecursion (λ b. b < 256) bs → to_bytes w (from_bytes bs) ≡ bs
 bytes_back zero bs e low = sym (nil_from_length bs e)
 bytes_back (suc w) bs e low =
     let h : w < length bs = omega arith in
@@ -51,5 +51,5 @@ bytes_back (suc w) bs e low =
     ∙ ap (λ z. z ++ (last ∷ [])) (bytes_back w (take w bs) (length-take-le w bs (omega arith)) (All-take (λ b. b < 256) w bs low))
     ∙ sym split
 
-pub number_low : (bs : List ℕ) → All (λ b. b < 256) bs → from_bytes bs < 256 ^ length bs
+pub number_low : (bs : List ℕ) → AllByRecursion (λ b. b < 256) bs → from_bytes bs < 256 ^ length bs
 number_low bs low = number_lt 256 bs low

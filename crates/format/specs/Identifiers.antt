@@ -1,6 +1,6 @@
 -- The rule of identifiers: one to four numbers, unused ones zero.
 use Rattle.std.specs.Prelude.{ℕ, ◌^◌, ◌<◌, ◌≤◌, Bool, true, cond, ◌&&◌, List, [], ◌∷◌, ◌++◌, length, take, drop, replicate, Some, None, Option, ◌==◌, nat_le}
-use Rattle.std.specs.List.{AllByRecursion as All}
+use Rattle.std.specs.List.{AllByRecursion}
 use Rattle.format.specs.Layout.{number_len, max_depth}
 use Rattle.format.specs.Values.{IdentifierValue}
 
@@ -20,7 +20,7 @@ identified d ns = cond (well_formed d ns) (Some (take d ns)) None
 pub record Identifies (c : IdentifierValue) : Type 0 where
   pub some : 1 ≤ length c
   pub few : length c ≤ max_depth
-  pub fit : All (λ n. n < 256 ^ number_len) c
+  pub fit : AllByRecursion (λ n. n < 256 ^ number_len) c
 
 -- the numbers and then zeros, four in all
 abbrev pub padded : IdentifierValue → List ℕ

@@ -1,6 +1,6 @@
 //! Writing bytes over a part of a buffer.
 ghost use Rattle.std.specs.Prelude.{◌+◌, ◌^◌, ◌<◌, ◌≤◌, length};
-ghost use Rattle.std.specs.List.{flat_map, AllByRecursion as All};
+ghost use Rattle.std.specs.List.{flat_map, AllByRecursion};
 ghost use Rattle.format.specs.Layout.{number_len};
 ghost use Rattle.format.specs.Numbers.{to_bytes};
 ghost use Rattle.format.specs.Writing.{Wrote};
@@ -21,7 +21,7 @@ pub(crate) fn write_at(buffer: &mut [u8], at: usize, bytes: &[u8]) -> usize
 pub(crate) fn write_numbers(buffer: &mut [u8], from: usize, numbers: &[Number]) -> usize
     requires { from + length (flat_map (to_bytes number_len) numbers.now) ≤ length buffer.old }
     ensures wrote { Wrote buffer.old from (flat_map (to_bytes number_len) numbers.now) buffer.new result }
-    ensures fits { All (λ n. n < 256 ^ number_len) numbers.now }
+    ensures fits { AllByRecursion (λ n. n < 256 ^ number_len) numbers.now }
 {
     let mut at = from;
     for number in numbers {

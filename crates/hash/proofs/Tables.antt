@@ -1,6 +1,6 @@
 -- The tables of SHA-256 by the roots of primes: one computed test for each, and what it says of each entry.
 use Rattle.std.proofs.Common.{◌≡◌, ℕ, zero, suc, ◌+◌, ◌-◌, ◌*◌, ◌%◌, ◌^◌, ◌<◌, Bool, true, cond, not, ◌&&◌, eqb, ltb, leb, List, [], ◌∷◌, length, get_or, filter, sym, refl, ap, ◌∙◌, subst, ⊎_elim, arith}
-use Rattle.std.specs.List.{range_with_len, AllByRecursion as All}
+use Rattle.std.specs.List.{range_with_len, AllByRecursion}
 use Rattle.std.proofs.lemmas.Bool.{and_parts, and_from, cases_eq, cases_Bool, cond-true, cond-false, not-true, not_from_false, eqb-false, ne_eqb, le-leb, leb-true, ltb-true}
 use Rattle.std.proofs.lemmas.List.FromFn.{get_or-range_with_len, length-range_with_len}
 use Rattle.std.proofs.ByRecursion.{kept_by_passes, All-get_or}
@@ -88,7 +88,7 @@ first_primes =
     record {
       prime = λ i h.
           prime_from_test (get_or primes i 0)
-          (All-get_or (λ p. is_prime p ≡ true) primes i 0 h (subst (All (λ p. is_prime p ≡ true)) primes_kept (kept_by_passes is_prime (range_with_len 2 310))));
+          (All-get_or (λ p. is_prime p ≡ true) primes i 0 h (subst (AllByRecursion (λ p. is_prime p ≡ true)) primes_kept (kept_by_passes is_prime (range_with_len 2 310))));
       ascend = λ i h. ltb-true _ _ (every_at (round_count - 1) below_next ascending i (omega (arith, last_prime.0)));
       all = λ p prime h.
           subst (λ ps. Holds ps p) primes_kept

@@ -1,5 +1,6 @@
 //! The protocol: what each call answers and leaves, as definitions, and the small rules of the commands.
 #![tactic(auto)]
+
 ghost use Rattle.std.specs.Prelude.{◌≡◌};
 ghost use Rattle.committee.specs.Meaning.{members_value};
 ghost use Rattle.protocol.specs.Execution.{key_allowed};

@@ -5,7 +5,7 @@ use Rattle.std.proofs.ByRecursion.{All-get_or, All-take, All-drop}
 use Rattle.std.proofs.lemmas.List.{nil_from_length, drop-drop, drop_more, length-take-le, drop_all}
 use Rattle.std.proofs.lemmas.Int.{of_z-to_z}
 use Rattle.std.proofs.lemmas.Bool.{and_parts, leb-true, eqb-true}
-use Rattle.std.specs.List.{flat_map, AllByRecursion as All}
+use Rattle.std.specs.List.{flat_map, AllByRecursion}
 use Rattle.std.specs.Option.{option_map}
 use Rattle.format.specs.Layout.{number_len, height_len, key_len, code_len, value_len, depth_len, max_depth, identifier_len, name_len, open_len, change_len, execute_len, receive_len, open_byte, change_byte, execute_byte, receive_byte}
 use Rattle.format.specs.Numbers.{to_bytes, signed_bytes, from_bytes, signed_number}
@@ -39,7 +39,7 @@ length_numbers zero bs = refl
 length_numbers (suc n) bs = ap suc (length_numbers n (drop number_len bs))
 
 -- numbers of a width are written back as the bytes that they were read from
-numbers_only : (n : ℕ) (bs : List ℕ) → length bs ≡ n * number_len → All Byte bs → flat_map (to_bytes number_len) (numbers_in n bs) ≡ bs
+numbers_only : (n : ℕ) (bs : List ℕ) → length bs ≡ n * number_len → AllByRecursion Byte bs → flat_map (to_bytes number_len) (numbers_in n bs) ≡ bs
 numbers_only zero bs e low = sym (nil_from_length bs e)
 numbers_only (suc n) bs e low =
     let enough : number_len ≤ length bs = omega (arith, e, add-mul 1 n number_len, one-mul number_len) in
@@ -47,7 +47,7 @@ numbers_only (suc n) bs e low =
     (λ i. bytes_back number_len (take number_len bs) (length-take-le number_len bs enough) (All-take Byte number_len bs low) i ++ numbers_only n (drop number_len bs) rest (All-drop Byte number_len bs low) i)
     ∙ take-append-drop number_len bs
 
-numbers_fit : (n : ℕ) (bs : List ℕ) → length bs ≡ n * number_len → All Byte bs → All (λ x. x < 256 ^ number_len) (numbers_in n bs)
+numbers_fit : (n : ℕ) (bs : List ℕ) → length bs ≡ n * number_len → AllByRecursion Byte bs → AllByRecursion (λ x. x < 256 ^ number_len) (numbers_in n bs)
 numbers_fit zero bs e low = tt
 numbers_fit (suc n) bs e low =
     let enough : number_len ≤ length bs = omega (arith, e, add-mul 1 n number_len, one-mul number_len) in
@@ -61,7 +61,7 @@ pub record Only {A : Type 0} (Rule : A → Type 0) (bytes : A → List ℕ) (bs 
   pub same : bs ≡ bytes x
   pub rule : Rule x
 
-pub identifier_only : (bs : List ℕ) (c : IdentifierValue) → All Byte bs → identifier_in bs ≡ Some c → Only Identifies identifier_bytes bs c
+pub identifier_only : (bs : List ℕ) (c : IdentifierValue) → AllByRecursion Byte bs → identifier_in bs ≡ Some c → Only Identifies identifier_bytes bs c
 unfolding identifier_in identifier_bytes
 identifier_only bs c low e =
     let s = some_cond _ _ c e in
@@ -88,7 +88,7 @@ identifier_only bs c low e =
       });
     }
 
-module _ (xs : List ℕ) (long : length xs ≡ value_len) (low : All Byte xs) where
+module _ (xs : List ℕ) (long : length xs ≡ value_len) (low : AllByRecursion Byte xs) where
   fits : Fits w64 (from_bytes xs)
   fits = record { fits = subst (λ w. from_bytes xs < 256 ^ w) long (number_low xs low) }
 
@@ -101,7 +101,7 @@ module _ (xs : List ℕ) (long : length xs ≡ value_len) (low : All Byte xs) wh
 abbrev pub NameRule : NameValue → Type 0
 NameRule n = Identifies n.sender × (name_allowed n ≡ true)
 
-pub name_only : (bs : List ℕ) (n : NameValue) → All Byte bs → name_in bs ≡ Some n → Only NameRule name_bytes bs n
+pub name_only : (bs : List ℕ) (n : NameValue) → AllByRecursion Byte bs → name_in bs ≡ Some n → Only NameRule name_bytes bs n
 unfolding name_in name_bytes
 name_only bs n low e =
     let s = some_cond _ _ n e in
@@ -126,7 +126,7 @@ name_only bs n low e =
 abbrev pub MessageRule : MessageValue → Type 0
 MessageRule m = Identifies m.name.sender × (m.code < 256) × SFits w64 m.value × (name_allowed m.name ≡ true)
 
-pub message_only : (bs : List ℕ) (m : MessageValue) → All Byte bs → message_in bs ≡ Some m → Only MessageRule message_bytes bs m
+pub message_only : (bs : List ℕ) (m : MessageValue) → AllByRecursion Byte bs → message_in bs ≡ Some m → Only MessageRule message_bytes bs m
 unfolding message_in message_bytes
 message_only bs m low e =
     let s = some_cond _ _ m e in
@@ -153,7 +153,7 @@ CommandRule o = CommandFits o × (command_allowed o ≡ true)
 abbrev pub OnlyBehind : ℕ → List ℕ → CommandValue → Type 0
 OnlyBehind byte xs o = (byte ∷ xs ≡ command_bytes o) × CommandRule o
 
-pub open_only : (xs : List ℕ) (o : CommandValue) → All Byte xs → open_in xs ≡ Some o → OnlyBehind open_byte xs o
+pub open_only : (xs : List ℕ) (o : CommandValue) → AllByRecursion Byte xs → open_in xs ≡ Some o → OnlyBehind open_byte xs o
 unfolding open_in
 open_only xs o low e =
     let s = some_cond _ _ o e in
@@ -167,7 +167,7 @@ open_only xs o low e =
       subst CommandRule (sym t.2) ((child.rule, subst (λ w. from_bytes ks < 256 ^ w) ks-long (number_low ks ks-low)), refl),
     )
 
-pub change_only : (xs : List ℕ) (o : CommandValue) → All Byte xs → change_in xs ≡ Some o → OnlyBehind change_byte xs o
+pub change_only : (xs : List ℕ) (o : CommandValue) → AllByRecursion Byte xs → change_in xs ≡ Some o → OnlyBehind change_byte xs o
 unfolding change_in
 change_only xs o low e =
     let s = some_cond (eqb (length xs) change_len) (Some (changes (from_bytes xs))) o e in
@@ -177,7 +177,7 @@ change_only xs o low e =
       subst CommandRule t (subst (λ w. from_bytes xs < 256 ^ w) long (number_low xs low), refl),
     )
 
-pub execute_only : (xs : List ℕ) (o : CommandValue) → All Byte xs → execute_in xs ≡ Some o → OnlyBehind execute_byte xs o
+pub execute_only : (xs : List ℕ) (o : CommandValue) → AllByRecursion Byte xs → execute_in xs ≡ Some o → OnlyBehind execute_byte xs o
 unfolding execute_in
 execute_only xs o low e =
     let s = some_cond _ _ o e in
@@ -193,7 +193,7 @@ execute_only xs o low e =
       subst CommandRule (sym t.2) ((All-get_or Byte xs 0 0 (omega (arith, long)) low, signed_fits vs vs-long vs-low, target.rule), refl),
     )
 
-pub receive_only : (xs : List ℕ) (o : CommandValue) → All Byte xs → receive_in xs ≡ Some o → OnlyBehind receive_byte xs o
+pub receive_only : (xs : List ℕ) (o : CommandValue) → AllByRecursion Byte xs → receive_in xs ≡ Some o → OnlyBehind receive_byte xs o
 receive_only xs o low e =
     let t = mapped_some receives (message_in xs) o e in
     let m = message_only xs t.0 low t.1 in (

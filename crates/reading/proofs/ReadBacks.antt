@@ -5,7 +5,7 @@ use Rattle.std.proofs.ByRecursion.{All-append, All-take}
 use Rattle.std.proofs.lemmas.List.{take_at, drop_at, get_or_at, drop-take, take-replicate, drop-drop, get_or-drop}
 use Rattle.std.proofs.lemmas.Int.{to_z-of_z}
 use Rattle.std.proofs.lemmas.Bool.{cond-true, and_from, and_parts, leb-true, eq-eqb}
-use Rattle.std.specs.List.{flat_map, AllByRecursion as All}
+use Rattle.std.specs.List.{flat_map, AllByRecursion}
 use Rattle.std.specs.Option.{option_map}
 use Rattle.format.specs.Layout.{number_len, height_len, digest_len, key_len, code_len, value_len, max_depth, max_height, max_index, identifier_len, name_len, head_len, open_len, execute_len, receive_len}
 use Rattle.format.specs.Numbers.{to_bytes, signed_bytes, from_bytes, signed_number}
@@ -25,7 +25,7 @@ use Rattle.reading.proofs.Fronts.{with_byte}
 use Rattle.reading.proofs.Heads.{head_read}
 
 -- numbers of a width, one behind the other
-numbers_back : (xs : List ℕ) → All (λ n. n < 256 ^ number_len) xs → numbers_in (length xs) (flat_map (to_bytes number_len) xs) ≡ xs
+numbers_back : (xs : List ℕ) → AllByRecursion (λ n. n < 256 ^ number_len) xs → numbers_in (length xs) (flat_map (to_bytes number_len) xs) ≡ xs
 numbers_back [] low = refl
 numbers_back (x ∷ xs) low =
     let front = take_at (to_bytes number_len x) (flat_map (to_bytes number_len) xs) number_len (length_of_bytes number_len x) in
@@ -37,12 +37,12 @@ zeros_zero : (n : ℕ) → all_zero (replicate n 0) ≡ true
 zeros_zero zero = refl
 zeros_zero (suc n) = zeros_zero n
 
-low_zeros : (n : ℕ) → All (λ x. x < 256 ^ number_len) (replicate n 0)
+low_zeros : (n : ℕ) → AllByRecursion (λ x. x < 256 ^ number_len) (replicate n 0)
 low_zeros zero = tt
 low_zeros (suc n) = (lit< tt, low_zeros n)
 
 module _ (c : IdentifierValue) (k : Identifies c) where
-  padded_low : All (λ n. n < 256 ^ number_len) (padded c)
+  padded_low : AllByRecursion (λ n. n < 256 ^ number_len) (padded c)
   padded_low =
       All-take (λ n. n < 256 ^ number_len) max_depth (c ++ replicate max_depth 0)
       (All-append (λ n. n < 256 ^ number_len) c (replicate max_depth 0) k.fit (low_zeros max_depth))
@@ -185,7 +185,7 @@ command_rest closes rest = front_rest _ [] rest refl
 command_rest (executes code a t) rest = front_rest _ (code ∷ (signed_bytes a ++ identifier_bytes t)) rest (let n = length_identifier t in simp length-append (omega arith))
 command_rest (receives m) rest = front_rest _ (message_bytes m) rest (length_message m)
 
-pub commands_back : (cs : List CommandValue) (k : ℕ) → All CommandFits cs → commands_allowed cs ≡ true → commands_in (length cs) k (flat_map command_bytes cs) ≡ Passed cs
+pub commands_back : (cs : List CommandValue) (k : ℕ) → AllByRecursion CommandFits cs → commands_allowed cs ≡ true → commands_in (length cs) k (flat_map command_bytes cs) ≡ Passed cs
 commands_back [] k f l = refl
 commands_back (c ∷ cs) k f l =
     let p = and_parts (command_allowed c) (commands_allowed cs) l in

@@ -3,7 +3,7 @@ use Rattle.std.proofs.Common.{◌≡◌, ℕ, zero, suc, ◌+◌, ◌≤◌, Boo
 use Rattle.std.proofs.ByRecursion.{All-take, All-drop}
 use Rattle.std.proofs.lemmas.List.{nil_from_length, drop-drop, drop_more, length-take-le}
 use Rattle.std.proofs.lemmas.Bool.{and_from, and_parts, eqb-true}
-use Rattle.std.specs.List.{flat_map, AllByRecursion as All}
+use Rattle.std.specs.List.{flat_map, AllByRecursion}
 use Rattle.format.specs.Layout.{height_len, digest_len, command_byte_len, identifier_len, head_len, open_byte, change_byte, close_byte, execute_byte, receive_byte}
 use Rattle.format.specs.Numbers.{to_bytes}
 use Rattle.format.specs.Values.{CommandValue, closes, BlockValue}
@@ -33,7 +33,7 @@ close_only xs o n e =
     let t : closes ≡ o = cc in
     (ap (λ z. close_byte ∷ z) (nil_from_length xs n) ∙ ap command_bytes t, subst CommandRule t (tt, refl))
 
-operands_only : (byte : ℕ) (xs : List ℕ) (o : CommandValue) → All Byte xs → length xs ≡ operands_len_of byte → operands_in byte xs ≡ Some o → OnlyBehind byte xs o
+operands_only : (byte : ℕ) (xs : List ℕ) (o : CommandValue) → AllByRecursion Byte xs → length xs ≡ operands_len_of byte → operands_in byte xs ≡ Some o → OnlyBehind byte xs o
 operands_only byte xs o low n e =
     ⊎_elim (λ h. at_byte byte open_byte xs o h.0 (open_only xs o low h.1))
     (λ e. ⊎_elim (λ h. at_byte byte change_byte xs o h.0 (change_only xs o low h.1))
@@ -48,7 +48,7 @@ first : (bs : List ℕ) (m : ℕ) → command_byte_len ≤ length bs → take (c
 first [] m h = absurd (omega arith)
 first (b ∷ bs) m h = ap (λ j. take j (b ∷ bs)) (one-add m)
 
-command_only : (bs : List ℕ) (o : CommandValue) → All Byte bs → command_in bs ≡ Some o → (bs ≡ command_bytes o ++ drop (command_len bs) bs) × CommandRule o
+command_only : (bs : List ℕ) (o : CommandValue) → AllByRecursion Byte bs → command_in bs ≡ Some o → (bs ≡ command_bytes o ++ drop (command_len bs) bs) × CommandRule o
 unfolding command_len
 command_only bs o low e =
     let whole = front_whole bs o e in
@@ -65,10 +65,10 @@ ended false cs e = let z : ◌≡◌ {A = ℕ} 0 1 = cc in absurd (omega arith)
 
 pub record CommandsOnly (bs : List ℕ) (cs : List CommandValue) : Type 0 where
   pub same : bs ≡ flat_map command_bytes cs
-  pub fit : All CommandFits cs
+  pub fit : AllByRecursion CommandFits cs
   pub allowed : commands_allowed cs ≡ true
 
-commands_only : (n k : ℕ) (bs : List ℕ) (cs : List CommandValue) → All Byte bs → commands_in n k bs ≡ Passed cs → CommandsOnly bs cs
+commands_only : (n k : ℕ) (bs : List ℕ) (cs : List CommandValue) → AllByRecursion Byte bs → commands_in n k bs ≡ Passed cs → CommandsOnly bs cs
 commands_only zero k bs cs low e =
     let s = ended (eqb (length bs) 0) cs e in
     subst (CommandsOnly bs) (sym s.1) (record { same = nil_from_length bs (eqb-true (length bs) 0 s.0); fit = tt; allowed = refl })
@@ -90,10 +90,10 @@ pub record HeadOnly (bs : List ℕ) (h : HeadValue) : Type 0 where
   pub same : bs ≡ written_head h ++ drop head_len bs
   pub chain : Identifies h.chain
   pub digest : length h.previous ≡ digest_len
-  pub bytes : All Byte h.previous
+  pub bytes : AllByRecursion Byte h.previous
   pub allowed : head_allowed h.height h.previous h.count ≡ true
 
-head_only : (bs : List ℕ) (h : HeadValue) → All Byte bs → head_in bs ≡ Some h → HeadOnly bs h
+head_only : (bs : List ℕ) (h : HeadValue) → AllByRecursion Byte bs → head_in bs ≡ Some h → HeadOnly bs h
 unfolding head_in
 head_only bs h low e =
     let long = head_long bs h e in
@@ -131,7 +131,7 @@ block_ok : (x : Option HeadValue) (bs : List ℕ) (b : BlockValue)
 block_ok None bs b e = let z : ◌≡◌ {A = ℕ} 0 1 = cc in absurd (omega arith)
 block_ok (Some h) bs b e = let t = run_ok (commands_in h.count 0 (drop head_len bs)) h b e in (h, t.0, refl, t.1, t.2)
 
-pub block_only : (bs : List ℕ) → All Byte bs → (b : BlockValue) → block_in bs ≡ Passed b → (bs ≡ bytes_of b) × Within b
+pub block_only : (bs : List ℕ) → AllByRecursion Byte bs → (b : BlockValue) → block_in bs ≡ Passed b → (bs ≡ bytes_of b) × Within b
 unfolding block_in bytes_of head_bytes
 block_only bs low b e =
     let s = block_ok (head_in bs) bs b e in

@@ -1,5 +1,5 @@
 use Rattle.std.proofs.Common.{◌^◌, ◌<◌, length, get_or, ap, subst, arith, rules}
-use Rattle.std.specs.List.{AllByRecursion as All}
+use Rattle.std.specs.List.{AllByRecursion}
 use Rattle.std.proofs.ByRecursion.{All-more}
 use Rattle.std.proofs.lemmas.List.{get_or_default, take_all}
 use Rattle.format.specs.Layout.{number_len}
@@ -33,5 +33,5 @@ returns c =
     let i = c.loop-number.number-index in
     record {
       wrote = wrote_all (to_bytes number_len) ns i c.loop-number-test.false c.loop-number.invariant.0;
-      fits = subst (All (λ n. n < 256 ^ number_len)) (take_all i ns c.loop-number-test.false) c.loop-number.invariant.1;
+      fits = subst (AllByRecursion (λ n. n < 256 ^ number_len)) (take_all i ns c.loop-number-test.false) c.loop-number.invariant.1;
     }

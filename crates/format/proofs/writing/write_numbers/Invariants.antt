@@ -1,5 +1,5 @@
 use Rattle.std.proofs.Common.{◌^◌, ◌<◌, take}
-use Rattle.std.specs.List.{flat_map, AllByRecursion as All}
+use Rattle.std.specs.List.{flat_map, AllByRecursion}
 use Rattle.format.specs.Layout.{number_len}
 use Rattle.format.specs.Numbers.{to_bytes}
 use Rattle.format.specs.Writing.{Wrote}
@@ -8,4 +8,4 @@ use Rattle.format.proofs.writing.write_numbers.Given as goal
 abbrev pub invariant-loop-number : goal.invariant-loop-number
 invariant-loop-number l =
     Wrote l.initial.buffer l.from (flat_map (to_bytes number_len) (take l.number-index l.numbers)) l.buffer l.at
-    × All (λ n. n < 256 ^ number_len) (take l.number-index l.numbers)
+    × AllByRecursion (λ n. n < 256 ^ number_len) (take l.number-index l.numbers)

@@ -1,9 +1,6 @@
 use Rattle.std.proofs.Common.{◌≡◌, ◌+◌, ◌-◌, ◌&&◌, length, take, drop, sym, ◌∙◌, arith, length-take, rules}
-use Rattle.std.proofs.lemmas.Slice.Eq.{slice_eq-Decides}
 use Rattle.std.proofs.lemmas.Bool.{eq-eqb, le-leb}
-use Rattle.std.proofs.lemmas.Bool.Decides.{same_from_decides}
 use Rattle.std.specs.Str.{bytes_eq}
-use Rattle.format.proofs.Same.{identifier_decides}
 use Rattle.slots.specs.Layout.{slot_len, chain_at, max_prefix_len}
 use Rattle.slots.proofs.prefix.Prefix.begins.Goals as goal
 
@@ -17,6 +14,6 @@ returns c =
     let whole = eq-eqb (length s) slot_len c.if-slot-ne-SLOT_LEN.false in
     let first = le-leb _ _ c.if-slot-self.false in
     let last = le-leb _ _ c.if-slot-self-2.false in
-    same_from_decides _ _ (slice_eq-Decides _ _ _ c.eq.ensures) (identifier_decides _ _)
+    c.eq.ensures
     ∙ (λ i. bytes_eq (take (n i) (drop chain_at s)) (take (m i) p.bytes))
     ∙ (λ i. sym whole i && (sym first i && (sym last i && bytes_eq (take (length (take p.len p.bytes)) (drop chain_at s)) (take p.len p.bytes))))
