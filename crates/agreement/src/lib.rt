@@ -3,6 +3,7 @@
 //! The definitions of `specs/` speak of the calls as `protocol` defines them. `MembersAgree` is the promise over every list
 //! of calls; docs/PROMISES.md explains it.
 #![tactic(auto)]
+
 ghost use Rattle.std.specs.Prelude.{◌≡◌, pos, None};
 ghost use Rattle.applications.specs.Meaning.{step_value};
 ghost use Rattle.applications.specs.Steps.{Gives};

@@ -1,5 +1,6 @@
 //! A member of the committee. It reads requests, one to a line, and answers each in words.
 #![tactic(auto)]
+
 mod answer;
 mod frames;
 mod parse;

@@ -187,45 +187,83 @@ pub(crate) fn stock_step(text: &str) -> Result<Asked, ParseFault> {
     }
 }
 
-/// A command, its operands joined by colons.
-pub(crate) fn command(text: &str) -> Result<Command, ParseFault> {
-    let mut parts = text.split(':');
-    let found = match parts.next() {
-        Some("open") => Command::Open {
-            child: identifier(operand(parts.next())?)?,
-            key: key(operand(parts.next())?)?,
-        },
-        Some("change") => Command::Change {
-            key: key(operand(parts.next())?)?,
-        },
-        Some("close") => Command::Close,
-        Some("execute") => Command::Execute {
-            code: byte(operand(parts.next())?)?,
-            argument: signed(operand(parts.next())?)?,
-            target: identifier(operand(parts.next())?)?,
-        },
-        Some("receive") => Command::Receive {
-            message: Message {
-                name: Name {
-                    sender: identifier(operand(parts.next())?)?,
-                    height: height(operand(parts.next())?)?,
-                    index: byte(operand(parts.next())?)?,
-                },
-                code: byte(operand(parts.next())?)?,
-                value: signed(operand(parts.next())?)?,
-            },
-        },
-        _ => return Err(ParseFault::Command),
-    };
-    match parts.next() {
-        None => Ok(found),
-        Some(_) => Err(ParseFault::Command),
+// The operand at this place.
+fn operand<'a>(operands: &[&'a str], at: usize) -> Result<&'a str, ParseFault> {
+    match operands.get(at) {
+        Some(text) => Ok(*text),
+        None => Err(ParseFault::Command),
     }
 }
 
-fn operand<'a>(part: Option<&'a str>) -> Result<&'a str, ParseFault> {
-    match part {
-        Some(text) => Ok(text),
-        None => Err(ParseFault::Command),
+// That there is no further operand.
+fn no_more(operands: &[&str], count: usize) -> Result<(), ParseFault> {
+    if operands.len() > count {
+        return Err(ParseFault::Command);
+    }
+    Ok(())
+}
+
+fn open(operands: &[&str]) -> Result<Command, ParseFault> {
+    let child = identifier(operand(operands, 0)?)?;
+    let key = key(operand(operands, 1)?)?;
+    no_more(operands, 2)?;
+    Ok(Command::Open { child, key })
+}
+
+fn change(operands: &[&str]) -> Result<Command, ParseFault> {
+    let key = key(operand(operands, 0)?)?;
+    no_more(operands, 1)?;
+    Ok(Command::Change { key })
+}
+
+fn close(operands: &[&str]) -> Result<Command, ParseFault> {
+    no_more(operands, 0)?;
+    Ok(Command::Close)
+}
+
+fn execute(operands: &[&str]) -> Result<Command, ParseFault> {
+    let code = byte(operand(operands, 0)?)?;
+    let argument = signed(operand(operands, 1)?)?;
+    let target = identifier(operand(operands, 2)?)?;
+    no_more(operands, 3)?;
+    Ok(Command::Execute {
+        code,
+        argument,
+        target,
+    })
+}
+
+fn name(operands: &[&str]) -> Result<Name, ParseFault> {
+    let sender = identifier(operand(operands, 0)?)?;
+    let height = height(operand(operands, 1)?)?;
+    let index = byte(operand(operands, 2)?)?;
+    Ok(Name {
+        sender,
+        height,
+        index,
+    })
+}
+
+fn receive(operands: &[&str]) -> Result<Command, ParseFault> {
+    let name = name(operands)?;
+    let code = byte(operand(operands, 3)?)?;
+    let value = signed(operand(operands, 4)?)?;
+    no_more(operands, 5)?;
+    let message = Message { name, code, value };
+    Ok(Command::Receive { message })
+}
+
+/// A command, by its word and its operands.
+pub(crate) fn command(parts: &[&str]) -> Result<Command, ParseFault> {
+    let [word, operands @ ..] = parts else {
+        return Err(ParseFault::Command);
+    };
+    match *word {
+        "open" => open(operands),
+        "change" => change(operands),
+        "close" => close(operands),
+        "execute" => execute(operands),
+        "receive" => receive(operands),
+        _ => Err(ParseFault::Command),
     }
 }

@@ -110,9 +110,15 @@ fn rings(mut draft: Draft, target: Identifier, offsets: &[&str]) -> Result<Reque
     Ok(Request::Rings { draft, target })
 }
 
-fn commands(mut draft: Draft, words: &[&str]) -> Result<Request, RequestFault> {
+// A command, its operands joined by colons.
+fn command(heap: Global, word: &str) -> Result<Command, RequestFault> {
+    let parts: Vec<&str> = word.split(':').collect(heap)?;
+    Ok(parse::command(parts.as_slice())?)
+}
+
+fn commands(heap: Global, mut draft: Draft, words: &[&str]) -> Result<Request, RequestFault> {
     for word in words {
-        draft.commands.push(parse::command(word)?)?;
+        draft.commands.push(command(heap, word)?)?;
     }
     Ok(Request::Compose { draft })
 }
@@ -178,7 +184,7 @@ fn any_block(heap: Global, words: &[&str]) -> Result<Request, RequestFault> {
     let [chain, height, previous, words @ ..] = words else {
         return Err(RequestFault::NotUnderstood(ParseFault::Missing));
     };
-    commands(head(heap, chain, height, previous)?, words)
+    commands(heap, head(heap, chain, height, previous)?, words)
 }
 
 fn read_frame(rt: &HostRuntime, words: &[&str]) -> Result<Framed, RequestFault> {

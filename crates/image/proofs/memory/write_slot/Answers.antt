@@ -14,4 +14,4 @@ returns c =
     let n : i * slot_len + slot_len - i * slot_len ≡ i * slot_len + length x - i * slot_len = omega arith in
     let e = ap (λ k. take (i * slot_len) bs ++ (c.copy_from_slice.new.self ++ drop k (drop (i * slot_len) bs))) n ∙ written_part bs (i * slot_len) x _ c.copy_from_slice.ensures.after in
     let w = wrote_slot bs i x _ c.requires size (ap length e ∙ length_written bs (i * slot_len) x (omega (arith, c.requires))) e in
-    record { slots = w.slots_are; rest = w.past-is }
+    record { slots = w.slots_are; rest = w.past_is }

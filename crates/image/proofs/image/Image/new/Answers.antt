@@ -4,7 +4,7 @@ use Rattle.image.proofs.Answered.{new_cells, new_sound, new_past}
 use Rattle.image.proofs.image.Image.new.Goals as goal
 
 pub invariant_of-result : goal.invariant_of-result
-invariant_of-result c = (new_sound c.args.bytes.now c.new.result.bytes.now c.new.ensures, tt)
+invariant_of-result c = record { sound = new_sound c.args.bytes.now c.new.result.bytes.now c.new.ensures }
 
 pub returns : goal.returns
 returns c = record {
