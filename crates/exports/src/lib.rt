@@ -1,6 +1,7 @@
 //! The functions of the libraries for callers in C: for benchmarks and for tests from outside.
 //! A slice is passed as a pointer and then a length. Each function answers whether the buffer had room.
 #![tactic(auto)]
+
 ghost use Rattle.hash.specs.Sha256.{sha256_of};
 ghost use Rattle.hash.specs.Hmac.{hmac_of};
 ghost use Rattle.exports.specs.Answered.{Answered};
