@@ -29,9 +29,9 @@ pub record StandsAt (w : Rows) (c : IdentifierValue) (r : Record) : Type 0 where
   pub there : w.record_at c ≡ Some (record_value r)
   pub key : record_key r ≡ c
 
-abbrev pub Found_at : Rows → IdentifierValue → Result Record CallFault → Type 0
-Found_at w c (Ok r) = StandsAt w c r
-Found_at w c (Err f) = Unit {0}
+abbrev pub FoundAt : Rows → IdentifierValue → Result Record CallFault → Type 0
+FoundAt w c (Ok r) = StandsAt w c r
+FoundAt w c (Err f) = Unit {0}
 
 -- the vote of a chain whose record was found, for this digest
 abbrev pub ballot_answer : DigestValue → Result Record CallFault → Outcome Done

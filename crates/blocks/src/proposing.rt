@@ -15,9 +15,9 @@ ghost use Rattle.protocol.specs.Reads.{application, scheme};
 ghost use Rattle.blocks.specs.Opened.{Opens};
 ghost use Rattle.reading.specs.Frames.{request_value};
 ghost use Rattle.reading.specs.Parts.{head_value};
-ghost use Rattle.protocol.specs.Calls.{Ends, chain_in, considered, in_turn, owned, propose as spec-propose, votes_at_most};
+ghost use Rattle.protocol.specs.Calls.{Ends, chain_in, considered, in_turn, owned, propose as spec_propose, votes_at_most};
 ghost use Rattle.blocks.specs.Drafts.{Within, changes_value, draft_value};
-ghost use Rattle.blocks.specs.Proposing.{Found_at, ballot_answer, chain_answer, check_answer, request_proposed};
+ghost use Rattle.blocks.specs.Proposing.{FoundAt, ballot_answer, chain_answer, check_answer, request_proposed};
 
 use crate::draft::{Change, Draft};
 use crate::opening::{Opened, open_block};
@@ -32,8 +32,8 @@ use seals::Seals;
 
 // The record of a chain that has an owner.
 pub(crate) fn owned_record<B: Books>(books: &B, chain: &Identifier) -> Result<Record, CallFault>
-    ensures value { chain_answer result ≡ owned (chain_in ((meaning books.now).rows.record_at (identifier_value chain.now))) }
-    ensures there { Found_at (meaning books.now).rows (identifier_value chain.now) result }
+    ensures value { chain_answer result ≡ owned (chain_in ((B.Books.meaning books.now).rows.record_at (identifier_value chain.now))) }
+    ensures there { FoundAt (B.Books.meaning books.now).rows (identifier_value chain.now) result }
 {
     match books.record(chain) {
         Some(row) => {
@@ -87,7 +87,7 @@ fn has_put(changes: &[Change]) -> bool
 // Whether minus marks of the chain remain after the block.
 fn is_owing<B: Books>(books: &B, chain: &Identifier, draft: &Draft) -> bool
     requires { Within draft.now max_commands }
-    ensures { result ≡ ((meaning books.now).owing (identifier_value chain.now) || any puts (draft_value draft.now).operations) }
+    ensures { result ≡ ((B.Books.meaning books.now).owing (identifier_value chain.now) || any puts (draft_value draft.now).operations) }
 {
     books.has_minus(chain) || has_put(&draft.changes[..draft.changed])
 }
@@ -103,8 +103,8 @@ fn consider<A: Application, B: Books, S: Seals>(
 ) -> Result<Record, CallFault>
     requires opens { Opens block.bytes.now (head_value opened.now.head) (digest_value opened.now.digest) }
     requires place { block.at + length block.bytes.now < 2 ^ 64 }
-    ensures value { (b : BlockValue) → block_in block.entry.bytes.now ≡ Passed b → ballot_answer (digest_value opened.now.digest) result ≡ considered (members_value members.now) (application A.Application.start_a A.Application.start_b A.Application.operation A.Application.message) (scheme S.Seals.width (S.Seals.holds seals.now)) (meaning books.now) b seal.now }
-    ensures there { Found_at (meaning books.now).rows (identifier_value opened.now.head.chain) result }
+    ensures value { (b : BlockValue) → block_in block.entry.bytes.now ≡ Passed b → ballot_answer (digest_value opened.now.digest) result ≡ considered (members_value members.now) (application A.Application.start_a A.Application.start_b A.Application.operation A.Application.message) (scheme S.Seals.width (S.Seals.holds seals.now)) (B.Books.meaning books.now) b seal.now }
+    ensures there { FoundAt (B.Books.meaning books.now).rows (identifier_value opened.now.head.chain) result }
 {
     let row = owned_record(books, &opened.head.chain)?;
     if !seals.verify(row.owner, &opened.digest, seal) {
@@ -132,8 +132,8 @@ fn vote<A: Application, B: Books, S: Seals>(
 ) -> Result<Digest, CallFault>
     requires opens { Opens block.bytes.now (head_value opened.now.head) (digest_value opened.now.digest) }
     requires place { block.at + length block.bytes.now < 2 ^ 64 }
-    ensures change { (b : BlockValue) → block_in block.entry.bytes.now ≡ Passed b → Ends (considered (members_value members.now) (application A.Application.start_a A.Application.start_b A.Application.operation A.Application.message) (scheme S.Seals.width (S.Seals.holds seals.now)) (meaning books.old) b seal.now) (meaning books.old) (call_answer result) (meaning books.new) }
-    ensures rest { outside books.new ≡ outside books.old }
+    ensures change { (b : BlockValue) → block_in block.entry.bytes.now ≡ Passed b → Ends (considered (members_value members.now) (application A.Application.start_a A.Application.start_b A.Application.operation A.Application.message) (scheme S.Seals.width (S.Seals.holds seals.now)) (B.Books.meaning books.old) b seal.now) (B.Books.meaning books.old) (call_answer result) (B.Books.meaning books.new) }
+    ensures rest { B.Books.outside books.new ≡ B.Books.outside books.old }
 {
     let row = consider::<A, B, S>(books, seals, members, block, opened, seal)?;
     let mut voted = row;
@@ -150,8 +150,8 @@ fn propose_request<A: Application, B: Books, S: Seals>(
     request: Request,
 ) -> Result<Digest, CallFault>
     requires { request.block.at + length request.block.bytes.now < 2 ^ 64 }
-    ensures change { Ends (request_proposed (members_value members.now) (application A.Application.start_a A.Application.start_b A.Application.operation A.Application.message) (scheme S.Seals.width (S.Seals.holds seals.now)) (meaning books.old) (request_value request.entry)) (meaning books.old) (call_answer result) (meaning books.new) }
-    ensures rest { outside books.new ≡ outside books.old }
+    ensures change { Ends (request_proposed (members_value members.now) (application A.Application.start_a A.Application.start_b A.Application.operation A.Application.message) (scheme S.Seals.width (S.Seals.holds seals.now)) (B.Books.meaning books.old) (request_value request.entry)) (B.Books.meaning books.old) (call_answer result) (B.Books.meaning books.new) }
+    ensures rest { B.Books.outside books.new ≡ B.Books.outside books.old }
 {
     let opened = open_block(request.block)?;
     vote::<A, B, S>(
@@ -174,8 +174,8 @@ pub fn propose<A: Application, B: Books, S: Seals>(
     members: &[Member],
     frame: &[u8],
 ) -> Result<Digest, CallFault>
-    ensures change { Ends (spec-propose (members_value members.now) (application A.Application.start_a A.Application.start_b A.Application.operation A.Application.message) (scheme S.Seals.width (S.Seals.holds seals.now)) (meaning books.old) frame.now) (meaning books.old) (call_answer result) (meaning books.new) }
-    ensures rest { outside books.new ≡ outside books.old }
+    ensures change { Ends (spec_propose (members_value members.now) (application A.Application.start_a A.Application.start_b A.Application.operation A.Application.message) (scheme S.Seals.width (S.Seals.holds seals.now)) (B.Books.meaning books.old) frame.now) (B.Books.meaning books.old) (call_answer result) (B.Books.meaning books.new) }
+    ensures rest { B.Books.outside books.new ≡ B.Books.outside books.old }
 {
     if !is_committee(members) {
         return Err(CallFault::Committee);

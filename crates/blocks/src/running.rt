@@ -84,7 +84,7 @@ fn apply(draft: &mut Draft, site: &Site, target: Identifier, step: Step)
 // A message is received: its plus mark is removed, or else its minus mark is put.
 fn take_in<B: Books>(draft: &mut Draft, books: &B, chain: Identifier, message: Message)
     requires { draft.old.changed < max_commands }
-    ensures value { draft_value draft.new ≡ with_operations (draft_value draft.old) (receipts (identifier_value chain) (marks_after (meaning books.now).rows.marked (draft_value draft.old).operations) (message_value message ∷ [])) }
+    ensures value { draft_value draft.new ≡ with_operations (draft_value draft.old) (receipts (identifier_value chain) (marks_after (B.Books.meaning books.now).rows.marked (draft_value draft.old).operations) (message_value message ∷ [])) }
     ensures changed { draft.new.changed ≡ draft.old.changed + 1 }
     ensures sends { draft.new.sends ≡ draft.old.sends }
 {
@@ -192,7 +192,7 @@ fn run_receive<A: Application, B: Books>(
 ) -> Result<(), CommandFault>
     requires within { Within draft.old site.now.place }
     requires few { site.now.place < max_commands }
-    ensures value { step_answer site.now.place result (draft_value draft.new) ≡ with_receive A.Application.message (meaning books.now).rows.marked (identifier_value site.now.chain) site.now.height.0 site.now.place (draft_value draft.old) (command_value command.now) }
+    ensures value { step_answer site.now.place result (draft_value draft.new) ≡ with_receive A.Application.message (B.Books.meaning books.now).rows.marked (identifier_value site.now.chain) site.now.height.0 site.now.place (draft_value draft.old) (command_value command.now) }
     ensures within { Within draft.new (site.now.place + 1) }
 {
     if let Command::Receive { message } = *command {
@@ -216,7 +216,7 @@ fn run_command<A: Application, B: Books>(
     requires few { site.now.place < max_commands }
     requires byte { byte ≡ byte_of (command_value command.now) }
     requires index { index_of (command_value command.now) ≤ max_index }
-    ensures value { step_answer site.now.place result (draft_value draft.new) ≡ step_draft (members_value members.now) (application A.Application.start_a A.Application.start_b A.Application.operation A.Application.message) (meaning books.now).rows.marked (identifier_value site.now.chain) site.now.height.0 site.now.place (draft_value draft.old) (command_value command.now) }
+    ensures value { step_answer site.now.place result (draft_value draft.new) ≡ step_draft (members_value members.now) (application A.Application.start_a A.Application.start_b A.Application.operation A.Application.message) (B.Books.meaning books.now).rows.marked (identifier_value site.now.chain) site.now.height.0 site.now.place (draft_value draft.old) (command_value command.now) }
     ensures within { Within draft.new (site.now.place + 1) }
 {
     match byte {
@@ -257,7 +257,7 @@ fn run_part<A: Application, B: Books>(
     requires within { Within draft.old site.now.place }
     requires few { site.now.place < max_commands }
     requires known { is_some (operands_in part.now.byte part.now.operands.bytes.now) ≡ true }
-    ensures value { (x : CommandValue) → operands_in part.now.byte part.now.operands.bytes.now ≡ Some x → step_answer site.now.place result (draft_value draft.new) ≡ step_draft (members_value members.now) (application A.Application.start_a A.Application.start_b A.Application.operation A.Application.message) (meaning books.now).rows.marked (identifier_value site.now.chain) site.now.height.0 site.now.place (draft_value draft.old) x }
+    ensures value { (x : CommandValue) → operands_in part.now.byte part.now.operands.bytes.now ≡ Some x → step_answer site.now.place result (draft_value draft.new) ≡ step_draft (members_value members.now) (application A.Application.start_a A.Application.start_b A.Application.operation A.Application.message) (B.Books.meaning books.now).rows.marked (identifier_value site.now.chain) site.now.height.0 site.now.place (draft_value draft.old) x }
     ensures within { Within draft.new (site.now.place + 1) }
 {
     match part.value() {
@@ -286,7 +286,7 @@ pub(crate) fn run_block<A: Application, B: Books>(
 ) -> Result<Draft, AtCommand>
     requires read { Passed (head_value head.now) ≡ block_head_in block.bytes.now }
     requires place { block.at + length block.bytes.now < 2 ^ 64 }
-    ensures value { run_answer result ≡ block_finished (members_value members.now) (application A.Application.start_a A.Application.start_b A.Application.operation A.Application.message) (meaning books.now).rows.marked (record_value row.now).chain block.entry.bytes.now }
+    ensures value { run_answer result ≡ block_finished (members_value members.now) (application A.Application.start_a A.Application.start_b A.Application.operation A.Application.message) (B.Books.meaning books.now).rows.marked (record_value row.now).chain block.entry.bytes.now }
     ensures within { Drafted result }
 {
     let mut draft = Draft::new(row);

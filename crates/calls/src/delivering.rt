@@ -6,7 +6,7 @@ ghost use Rattle.books.specs.Books.{Changed, goes, needed, put_mark, put_record,
 ghost use Rattle.books.specs.Meaning.{counts_value, outgoing_key, outgoing_value, record_key, record_value};
 ghost use Rattle.books.specs.Values.{marking, minus, plus};
 ghost use Rattle.calls.specs.Arrivals.{arrival_counts, new_marks};
-ghost use Rattle.protocol.specs.Calls.{Ends, arrival, deliver as spec-deliver, made, message_of, new_record, record_or_new, unopened, with_owner};
+ghost use Rattle.protocol.specs.Calls.{Ends, arrival, deliver as spec_deliver, made, message_of, new_record, record_or_new, unopened, with_owner};
 ghost use Rattle.faults.specs.Refusals.{call_answer};
 ghost use Rattle.protocol.specs.Reads.{application};
 
@@ -25,9 +25,9 @@ fn is_unopened(row: &Record) -> bool
 
 // Sets the owner of a chain whose record is there, where it has none and no block.
 fn open<B: Books>(books: &mut B, row: Record, key: Key)
-    requires { (meaning books.old).rows.record_at (record_key row) ≡ Some (record_value row) }
-    ensures change { Changed (meaning books.old) (if unopened (record_value row) then put_record (record_key row) (with_owner key.0 (record_value row)) ∷ [] else []) (meaning books.new) }
-    ensures rest { outside books.new ≡ outside books.old }
+    requires { (B.Books.meaning books.old).rows.record_at (record_key row) ≡ Some (record_value row) }
+    ensures change { Changed (B.Books.meaning books.old) (if unopened (record_value row) then put_record (record_key row) (with_owner key.0 (record_value row)) ∷ [] else []) (B.Books.meaning books.new) }
+    ensures rest { B.Books.outside books.new ≡ B.Books.outside books.old }
 {
     if is_unopened(&row) {
         let mut opened = row;
@@ -38,9 +38,9 @@ fn open<B: Books>(books: &mut B, row: Record, key: Key)
 
 // Removes the minus mark of a message that was received, or else puts its plus mark.
 fn settle<B: Books>(books: &mut B, target: Identifier, message: Message)
-    requires { (meaning books.old).rows.marked (marking (identifier_value target) (message_value message) minus) ≡ false → goes (meaning books.old) (put_mark (marking (identifier_value target) (message_value message) plus)) ≡ true }
-    ensures change { Changed (meaning books.old) (if (meaning books.old).rows.marked (marking (identifier_value target) (message_value message) minus) then remove_mark (marking (identifier_value target) (message_value message) minus) ∷ [] else put_mark (marking (identifier_value target) (message_value message) plus) ∷ []) (meaning books.new) }
-    ensures rest { outside books.new ≡ outside books.old }
+    requires { (B.Books.meaning books.old).rows.marked (marking (identifier_value target) (message_value message) minus) ≡ false → goes (B.Books.meaning books.old) (put_mark (marking (identifier_value target) (message_value message) plus)) ≡ true }
+    ensures change { Changed (B.Books.meaning books.old) (if (B.Books.meaning books.old).rows.marked (marking (identifier_value target) (message_value message) minus) then remove_mark (marking (identifier_value target) (message_value message) minus) ∷ [] else put_mark (marking (identifier_value target) (message_value message) plus) ∷ []) (B.Books.meaning books.new) }
+    ensures rest { B.Books.outside books.new ≡ B.Books.outside books.old }
 {
     let minus = Mark {
         target,
@@ -64,13 +64,13 @@ fn make_target<A: Application, B: Books>(
     target: Identifier,
     found: Option<Record>,
 ) -> Record
-    requires value { option_map record_value found ≡ (meaning books.old).rows.record_at (identifier_value target) }
+    requires value { option_map record_value found ≡ (B.Books.meaning books.old).rows.record_at (identifier_value target) }
     requires key { IfSome found (λ x. record_key x ≡ identifier_value target) }
-    requires place { (meaning books.old).rows.record_at (identifier_value target) ≡ None → goes (meaning books.old) (put_record (identifier_value target) (new_record (application A.Application.start_a A.Application.start_b A.Application.operation A.Application.message) 0)) ≡ true }
-    ensures value { record_value result ≡ record_or_new (application A.Application.start_a A.Application.start_b A.Application.operation A.Application.message) ((meaning books.old).rows.record_at (identifier_value target)) }
+    requires place { (B.Books.meaning books.old).rows.record_at (identifier_value target) ≡ None → goes (B.Books.meaning books.old) (put_record (identifier_value target) (new_record (application A.Application.start_a A.Application.start_b A.Application.operation A.Application.message) 0)) ≡ true }
+    ensures value { record_value result ≡ record_or_new (application A.Application.start_a A.Application.start_b A.Application.operation A.Application.message) ((B.Books.meaning books.old).rows.record_at (identifier_value target)) }
     ensures key { record_key result ≡ identifier_value target }
-    ensures change { Changed (meaning books.old) (made (application A.Application.start_a A.Application.start_b A.Application.operation A.Application.message) (identifier_value target) ((meaning books.old).rows.record_at (identifier_value target))) (meaning books.new) }
-    ensures rest { outside books.new ≡ outside books.old }
+    ensures change { Changed (B.Books.meaning books.old) (made (application A.Application.start_a A.Application.start_b A.Application.operation A.Application.message) (identifier_value target) ((B.Books.meaning books.old).rows.record_at (identifier_value target))) (B.Books.meaning books.new) }
+    ensures rest { B.Books.outside books.new ≡ B.Books.outside books.old }
 {
     match found {
         Some(row) => row,
@@ -84,7 +84,7 @@ fn make_target<A: Application, B: Books>(
 
 // How many new marks the message needs at its target.
 fn new_marks<B: Books>(books: &B, target: Identifier, message: Message) -> usize
-    ensures { result ≡ new_marks (meaning books.now).rows (identifier_value target) (message_value message) }
+    ensures { result ≡ new_marks (B.Books.meaning books.now).rows (identifier_value target) (message_value message) }
 {
     let minus = Mark {
         target,
@@ -115,8 +115,8 @@ fn message_of(row: &Outgoing, code: u8, value: i64) -> Message
 
 // The new rows that an outgoing row needs at its target, whose record is the one found.
 fn arrival_rows<B: Books>(books: &B, row: &Outgoing, found: Option<Record>) -> NewRows
-    requires { option_map record_value found ≡ (meaning books.now).rows.record_at (identifier_value row.now.target) }
-    ensures { counts_value result ≡ arrival_counts (meaning books.now).rows (outgoing_key row.now) (outgoing_value row.now) }
+    requires { option_map record_value found ≡ (B.Books.meaning books.now).rows.record_at (identifier_value row.now.target) }
+    ensures { counts_value result ≡ arrival_counts (B.Books.meaning books.now).rows (outgoing_key row.now) (outgoing_value row.now) }
 {
     let records = match found {
         Some(_) => 0,
@@ -135,11 +135,11 @@ fn arrival_rows<B: Books>(books: &B, row: &Outgoing, found: Option<Record>) -> N
 
 // What an outgoing row does at its target, whose record is the one found.
 fn arrive<A: Application, B: Books>(books: &mut B, row: &Outgoing, found: Option<Record>)
-    requires value { option_map record_value found ≡ (meaning books.old).rows.record_at (identifier_value row.now.target) }
+    requires value { option_map record_value found ≡ (B.Books.meaning books.old).rows.record_at (identifier_value row.now.target) }
     requires key { IfSome found (λ x. record_key x ≡ identifier_value row.now.target) }
-    requires place { (meaning books.old).fits (identifier_value row.now.target) (needed (meaning books.old).rows (arrival (application A.Application.start_a A.Application.start_b A.Application.operation A.Application.message) (meaning books.old).rows (outgoing_key row.now) (outgoing_value row.now))) ≡ true }
-    ensures change { Changed (meaning books.old) (arrival (application A.Application.start_a A.Application.start_b A.Application.operation A.Application.message) (meaning books.old).rows (outgoing_key row.now) (outgoing_value row.now)) (meaning books.new) }
-    ensures rest { outside books.new ≡ outside books.old }
+    requires place { (B.Books.meaning books.old).fits (identifier_value row.now.target) (needed (B.Books.meaning books.old).rows (arrival (application A.Application.start_a A.Application.start_b A.Application.operation A.Application.message) (B.Books.meaning books.old).rows (outgoing_key row.now) (outgoing_value row.now))) ≡ true }
+    ensures change { Changed (B.Books.meaning books.old) (arrival (application A.Application.start_a A.Application.start_b A.Application.operation A.Application.message) (B.Books.meaning books.old).rows (outgoing_key row.now) (outgoing_value row.now)) (B.Books.meaning books.new) }
+    ensures rest { B.Books.outside books.new ≡ B.Books.outside books.old }
 {
     let target = make_target::<A, B>(books, row.target, found);
     match row.load {
@@ -152,8 +152,8 @@ fn arrive<A: Application, B: Books>(books: &mut B, row: &Outgoing, found: Option
 /// message removes its minus mark, or else puts a plus mark. The target's record is made where it is missing, and the row is
 /// then removed. Refusals: 20 where there is no such row, 19 where the new record and mark do not fit.
 pub fn deliver<A: Application, B: Books>(books: &mut B, name: &Name) -> Result<Digest, CallFault>
-    ensures change { Ends (spec-deliver (application A.Application.start_a A.Application.start_b A.Application.operation A.Application.message) (meaning books.old) (name_value name.now)) (meaning books.old) (call_answer result) (meaning books.new) }
-    ensures rest { outside books.new ≡ outside books.old }
+    ensures change { Ends (spec_deliver (application A.Application.start_a A.Application.start_b A.Application.operation A.Application.message) (B.Books.meaning books.old) (name_value name.now)) (B.Books.meaning books.old) (call_answer result) (B.Books.meaning books.new) }
+    ensures rest { B.Books.outside books.new ≡ B.Books.outside books.old }
 {
     let Some(row) = books.outgoing(name) else {
         return Err(CallFault::NoOutgoing);

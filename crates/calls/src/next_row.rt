@@ -10,7 +10,7 @@ use books::{Books, Outgoing, Side};
 /// The outgoing row that is least by the height of its sender's block, then by the sender's identifier, then by the place of
 /// the command that sent it; none where there is none.
 pub fn waiting<B: Books>(books: &B) -> Option<Outgoing>
-    ensures { Least (meaning books.now).rows.outgoing_at (on All) (option_map entry_value result) }
+    ensures { Least (B.Books.meaning books.now).rows.outgoing_at (on All) (option_map entry_value result) }
 {
     books.least_outgoing(Side::All)
 }

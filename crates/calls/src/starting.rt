@@ -5,7 +5,7 @@ ghost use Rattle.books.specs.Counts.{counts};
 ghost use Rattle.calls.specs.Roots.{keys_value};
 ghost use Rattle.committee.specs.Meaning.{members_value};
 ghost use Rattle.faults.specs.Refusals.{call_answer};
-ghost use Rattle.protocol.specs.Calls.{Ends, max_roots, root_keys_allowed, root_of, root_records, roots_allowed, roots_fit, start as spec-start};
+ghost use Rattle.protocol.specs.Calls.{Ends, max_roots, root_keys_allowed, root_of, root_records, roots_allowed, roots_fit, start as spec_start};
 ghost use Rattle.protocol.specs.Reads.{application};
 
 use crate::records::{NO_DIGEST, new_record};
@@ -43,7 +43,7 @@ fn are_roots(members: &[Member], roots: &[Key]) -> bool
 // Whether the chain of each root fits as many records as there are roots.
 fn roots_fit<B: Books>(books: &B, roots: &[Key]) -> bool
     requires { length roots.now ≤ max_roots }
-    ensures { result ≡ roots_fit (meaning books.now) (length roots.now) 0 (keys_value roots.now) }
+    ensures { result ≡ roots_fit (B.Books.meaning books.now) (length roots.now) 0 (keys_value roots.now) }
 {
     let new = NewRows {
         records: roots.len(),
@@ -61,9 +61,9 @@ fn roots_fit<B: Books>(books: &B, roots: &[Key]) -> bool
 // Puts the record of each root.
 fn put_roots<A: Application, B: Books>(books: &mut B, roots: &[Key])
     requires few { length roots.now ≤ max_roots }
-    requires place { roots_fit (meaning books.old) (length roots.now) 0 (keys_value roots.now) ≡ true }
-    ensures change { Changed (meaning books.old) (root_records (application A.Application.start_a A.Application.start_b A.Application.operation A.Application.message) 0 (keys_value roots.now)) (meaning books.new) }
-    ensures rest { outside books.new ≡ outside books.old }
+    requires place { roots_fit (B.Books.meaning books.old) (length roots.now) 0 (keys_value roots.now) ≡ true }
+    ensures change { Changed (B.Books.meaning books.old) (root_records (application A.Application.start_a A.Application.start_b A.Application.operation A.Application.message) 0 (keys_value roots.now)) (B.Books.meaning books.new) }
+    ensures rest { B.Books.outside books.new ≡ B.Books.outside books.old }
 {
     for (place, root) in roots.iter().enumerate() {
         let row = new_record::<A>(Identifier::root(place as Number), *root);
@@ -79,8 +79,8 @@ pub fn start<A: Application, B: Books>(
     members: &[Member],
     roots: &[Key],
 ) -> Result<Digest, CallFault>
-    ensures change { Ends (spec-start (members_value members.now) (application A.Application.start_a A.Application.start_b A.Application.operation A.Application.message) (keys_value roots.now) (meaning books.old)) (meaning books.old) (call_answer result) (meaning books.new) }
-    ensures rest { outside books.new ≡ outside books.old }
+    ensures change { Ends (spec_start (members_value members.now) (application A.Application.start_a A.Application.start_b A.Application.operation A.Application.message) (keys_value roots.now) (B.Books.meaning books.old)) (B.Books.meaning books.old) (call_answer result) (B.Books.meaning books.new) }
+    ensures rest { B.Books.outside books.new ≡ B.Books.outside books.old }
 {
     if !is_committee(members) {
         return Err(CallFault::Committee);

@@ -1,6 +1,7 @@
 //! Lookups in full books, for benchmarks from outside. Each function fills new books, looks rows up in them, and answers the
 //! sum of the numbers found.
 #![tactic(auto)]
+
 ghost use Rattle.tables.specs.Limits.{max_rows};
 ghost use Rattle.exports_books.specs.Lookups.{LookedUp, new_tables};
 ghost use Rattle.exports_books.specs.Rows.{opening_found, opening_put, record_found, record_put};

@@ -4,7 +4,7 @@ ghost use Rattle.std.specs.Option.{option_map};
 ghost use Rattle.format.specs.Layout.{depth_len, height_len, identifier_len, key_len, max_depth, number_len, value_len};
 ghost use Rattle.format.specs.Meaning.{identifier_value, message_value, name_value};
 ghost use Rattle.format.specs.Numbers.{from_bytes, signed_number};
-ghost use Rattle.reading.specs.Fields.{identifier_in, message_in, name_in, numbers_in as spec-numbers-in};
+ghost use Rattle.reading.specs.Fields.{identifier_in, message_in, name_in, numbers_in as spec_numbers_in};
 
 use format::layout::{
     CODE_LEN, DEPTH_LEN, HEIGHT_LEN, IDENTIFIER_LEN, MAX_DEPTH, MAX_HEIGHT, MAX_INDEX, NAME_LEN,
@@ -54,7 +54,7 @@ pub(crate) fn value_in(bytes: &[u8]) -> i64
 // The four numbers behind the depth.
 fn numbers_in(bytes: &[u8]) -> [Number; MAX_DEPTH]
     requires { length bytes.now ≡ identifier_len }
-    ensures { result ≡ spec-numbers-in max_depth (drop depth_len bytes.now) }
+    ensures { result ≡ spec_numbers_in max_depth (drop depth_len bytes.now) }
 {
     [
         number_in(&bytes[DEPTH_LEN..DEPTH_LEN + NUMBER_LEN]),

@@ -6,7 +6,7 @@ ghost use Rattle.format.specs.Meaning.{digest_value, identifier_value, name_valu
 ghost use Rattle.format.specs.Numbers.{from_bytes, signed_number};
 ghost use Rattle.books.specs.Meaning.{entry_value, load_value, record_row};
 ghost use Rattle.slots.specs.Layout.{chain_at, slot_len};
-ghost use Rattle.slots.specs.Reading.{entry_in, home_in, name_at, opening_in, outgoing_part, record_fields, record_part, row_in, sent_in, vote_in as spec-vote-in};
+ghost use Rattle.slots.specs.Reading.{entry_in, home_in, name_at, opening_in, outgoing_part, record_fields, record_part, row_in, sent_in, vote_in as spec_vote_in};
 
 use crate::layout::{
     A_AT, B_AT, CHAIN_AT, FREE, LAST_AT, LOAD_AT, MESSAGE, NEXT_AT, OPENING, OWNER_AT, RECORD,
@@ -52,7 +52,7 @@ fn digest_in(bytes: &[u8]) -> Digest
 
 fn vote_in(slot: &[u8]) -> Option<Digest>
     requires { length slot.now ≡ slot_len }
-    ensures { option_map digest_value result ≡ spec-vote-in slot.now }
+    ensures { option_map digest_value result ≡ spec_vote_in slot.now }
 {
     if slot[VOTE_AT] == VOTED {
         Some(digest_in(&slot[VOTED_AT..SLOT_LEN]))

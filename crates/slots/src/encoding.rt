@@ -1,7 +1,7 @@
 //! The bytes of a row.
 ghost use Rattle.std.specs.Prelude.{◌≡◌};
 ghost use Rattle.books.specs.Meaning.{load_value, sign_value};
-ghost use Rattle.slots.specs.Bytes.{load_byte as spec-load-byte, row_bytes, sign_byte as spec-sign-byte};
+ghost use Rattle.slots.specs.Bytes.{load_byte as spec_load_byte, row_bytes, sign_byte as spec_sign_byte};
 ghost use Rattle.slots.specs.Meaning.{held_mark, held_outgoing, held_record};
 ghost use Rattle.slots.specs.RoundTrip.{RowFits, RowsReadBack};
 
@@ -31,7 +31,7 @@ pub fn encode_record(row: &Record) -> [u8; SLOT_LEN]
 }
 
 pub(crate) fn sign_byte(sign: &Sign) -> u8
-    ensures { result ≡ spec-sign-byte (sign_value sign.now) }
+    ensures { result ≡ spec_sign_byte (sign_value sign.now) }
 {
     match sign {
         Sign::Plus => PLUS,
@@ -40,7 +40,7 @@ pub(crate) fn sign_byte(sign: &Sign) -> u8
 }
 
 fn load_byte(load: &Load) -> u8
-    ensures { result ≡ spec-load-byte (load_value load.now) }
+    ensures { result ≡ spec_load_byte (load_value load.now) }
 {
     match load {
         Load::Opening { key: _ } => OPENING,

@@ -3,7 +3,7 @@ ghost use Rattle.std.specs.Prelude.{◌≡◌, ◌≤◌, length};
 ghost use Rattle.format.specs.Identifiers.{Identifies};
 ghost use Rattle.format.specs.Meaning.{identifier_value};
 ghost use Rattle.slots.specs.Layout.{max_prefix_len};
-ghost use Rattle.slots.specs.Prefixes.{begins as spec-begins, free_prefix, minus_prefix, prefix, prefix_value};
+ghost use Rattle.slots.specs.Prefixes.{begins as spec_begins, free_prefix, minus_prefix, prefix, prefix_value};
 
 use super::Prefix;
 use crate::layout::{CHAIN_AT, FREE, MAX_PREFIX_LEN, MINUS, SLOT_LEN};
@@ -42,7 +42,7 @@ impl Prefix {
 
     /// Whether a slot begins so.
     pub fn begins(&self, slot: &[u8]) -> bool
-        ensures { result ≡ spec-begins (prefix_value self.now) slot.now }
+        ensures { result ≡ spec_begins (prefix_value self.now) slot.now }
     {
         if slot.len() != SLOT_LEN || slot[0] < self.first || slot[0] > self.last {
             return false;

@@ -11,8 +11,8 @@ arrive-requires g c =
     let m = g.B.Books.meaning c.args.books.now in
     let row = c.in-Some.row in
     record {
-      value = c.record_found.ensures.value;
-      key = c.record_found.ensures.key;
+      value = c.record-found.ensures.value;
+      key = c.record-found.ensures.key;
       place = placed A m (outgoing_key row) (outgoing_value row) (counts_value c.arrival_rows-new.result) c.arrival_rows-new.ensures (sym c.fits.ensures ∙ c.if-not-fits.false);
     }
 
