@@ -6,14 +6,12 @@ set -euo pipefail
 bench=$(cd "$(dirname "${BASH_SOURCE[0]}")" && pwd)
 root=$(dirname "$bench")
 built=$root/target/bench
-# the C code that what Rattle compiles is linked with stands beside the toolchain's guide
-rattle=$(dirname "$(dirname "$(rt doc)")")
 
 mkdir -p "$built"
 
 # proves a crate and builds its static library
 library() {
-    (cd "$root" && rt staticlib "$1" >"$built/$1.log" 2>&1) || { cat "$built/$1.log"; exit 1; }
+    (cd "$root/crates/$1" && rt lib >"$built/$1.log" 2>&1) || { cat "$built/$1.log"; exit 1; }
 }
 
 hashes() {
@@ -27,7 +25,7 @@ hashes() {
         libraries=()
     fi
     gcc -O2 -Wall -Wextra "${flags[@]}" "$bench/bench.c" "$built/plain_clang.o" "$built/plain_gcc.o" \
-        "$root/target/staticlib/libexports.a" "$rattle/lib/librattle_c.a" "${libraries[@]}" -o "$built/bench"
+        "$root/crates/exports/out/libexports.a" "${libraries[@]}" -o "$built/bench"
     echo "compilers: $(clang --version | head -1); $(gcc --version | head -1)"
     "$built/bench"
 }
@@ -39,7 +37,7 @@ books() {
     fi
     library exports_books
     rustc --edition 2024 -C opt-level=3 "$bench/books.rs" -o "$built/books" \
-        -L "$root/target/staticlib" -l static=exports_books -L "$rattle/lib" -l static=rattle_c
+        -L "$root/crates/exports_books/out" -l static=exports_books
     echo "compiler: $(rustc --version)"
     "$built/books"
 }
@@ -48,7 +46,7 @@ image() {
     command -v rustc >/dev/null || return 0
     library exports
     rustc --edition 2024 -C opt-level=3 -C panic=abort "$bench/image.rs" -o "$built/image" \
-        -L "$root/target/staticlib" -l static=exports -L "$rattle/lib" -l static=rattle_c
+        -L "$root/crates/exports/out" -l static=exports
     "$built/image"
 }
 

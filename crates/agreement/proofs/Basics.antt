@@ -1,5 +1,5 @@
 -- Maps and lists.
-use Rattle.std.proofs.Common.{◌≡◌, Bool, true, false, cond, ◌⊎◌, List, [], ◌∷◌, ◌++◌, Decides, sym, refl, ◌∙◌, inl, inr, ⊎_elim}
+use Rattle.std.proofs.Common.{◌≡◌, Bool, cond, ◌⊎◌, List, [], ◌∷◌, ◌++◌, Decides, sym, refl, ◌∙◌, inl, inr, ⊎_elim}
 use Rattle.std.proofs.lemmas.Bool.{cases_Bool, cond-true, cond-false, false≢true}
 use Rattle.books.specs.Books.{updated}
 pub use Rattle.protocol.proofs.Outcomes.{refused_passed, passed_is, bind_passed, then_passed, check_holds, check_passed, given_passed, some_none, none_some, some_is, true_false}

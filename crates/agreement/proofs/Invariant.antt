@@ -1,5 +1,5 @@
 -- What holds after every list of calls, and the parts of its proof that no one call needs.
-use Rattle.std.proofs.Common.{◌≡◌, ℕ, ◌<◌, ◌≤◌, Bool, true, false, ◌⊎◌, List, [], ◌∷◌, ◌++◌, Some, sym, refl, ap, ◌∙◌, subst, inl, inr, ⊎_elim, arith}
+use Rattle.std.proofs.Common.{◌≡◌, ℕ, ◌<◌, ◌≤◌, Bool, true, false, List, [], ◌∷◌, ◌++◌, Some, sym, refl, ap, ◌∙◌, subst, inl, inr, ⊎_elim, arith}
 use Rattle.format.specs.Values.{IdentifierValue, MessageValue, BlockValue}
 use Rattle.format.proofs.Same.{identifier_decides}
 use Rattle.committee.specs.Weights.{total_weight, quorum_weight}

@@ -1,5 +1,5 @@
 -- One command on a draft, and all commands of a block.
-use Rattle.std.specs.Prelude.{◌≡◌, ℕ, ◌+◌, Bool, true, false, not, ◌||◌, List, [], ◌∷◌, ◌++◌, ℤ, Some, None, Ok, Err, Option, Result}
+use Rattle.std.specs.Prelude.{◌≡◌, ℕ, Bool, true, false, not, ◌||◌, List, [], ◌∷◌, ◌++◌, ℤ, Some, None, Ok, Err, Option, Result}
 use Rattle.format.specs.Layout.{open_byte, change_byte, close_byte, execute_byte, receive_byte}
 use Rattle.format.specs.Values.{IdentifierValue, CommandValue, opens, changes, closes, executes, receives, BlockValue}
 use Rattle.format.specs.Outcomes.{refusal_at, Outcome, Refused, Passed, ◌>>=◌, ◌>>◌, check}

@@ -1,5 +1,5 @@
 -- The tests of `specs/Same` are true exactly where the values are equal.
-use Rattle.std.specs.Prelude.{◌≡◌, ℕ, true, false, Decides, refl}
+use Rattle.std.specs.Prelude.{◌≡◌, ℕ, false, Decides, refl}
 use Rattle.std.proofs.Common.{ap, arith}
 use Rattle.std.proofs.lemmas.Bool.{false≢true}
 use Rattle.std.proofs.lemmas.Bool.Decides.{Decides-and, Decides-like}

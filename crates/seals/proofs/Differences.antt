@@ -1,6 +1,6 @@
 -- Differences of bytes, gathered by or.
-use Rattle.std.proofs.Common.{◌≡◌, ℕ, ◌+◌, ◌<◌, ◌≤◌, true, eqb, List, [], ◌∷◌, ◌++◌, length, get_or, take, Decides, sym, ap, ◌∙◌, arith}
-use lib.Bits.{bit_and, bit_or, bit_xor, and_le_l, and_le_r, or_add_and, or_zero_l, xor_assoc, xor_self, xor_zero_l, xor_zero_r}
+use Rattle.std.proofs.Common.{◌≡◌, ℕ, ◌+◌, ◌<◌, eqb, List, [], ◌∷◌, ◌++◌, length, get_or, take, Decides, sym, ap, ◌∙◌, arith}
+use lib.Bits.{bit_or, bit_xor, and_le_l, and_le_r, or_add_and, or_zero_l, xor_assoc, xor_self, xor_zero_l, xor_zero_r}
 use Rattle.std.proofs.lemmas.List.{take_more, same_from_push}
 use Rattle.std.proofs.lemmas.Bool.{eq-eqb, eqb-true}
 

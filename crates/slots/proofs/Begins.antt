@@ -16,7 +16,7 @@ use Rattle.slots.specs.Rows.{RowValue, holds_record, holds_mark, holds_outgoing,
 use Rattle.slots.specs.Bytes.{sign_byte, load_byte, record_bytes, mark_bytes, outgoing_bytes, filled, row_bytes, slot_bytes}
 use Rattle.slots.specs.Reading.{field, both, chain_in, name_at, record_fields, mark_fields, opening_in, sent_in, row_of_kind, kind_of, row_in, home_in}
 use Rattle.slots.specs.RoundTrip.{KeyFits, Exact}
-use Rattle.slots.specs.Prefixes.{PrefixValue, prefix, begins, key_prefix, minus_prefix, free_prefix}
+use Rattle.slots.specs.Prefixes.{PrefixValue, begins, key_prefix, minus_prefix, free_prefix}
 use Rattle.slots.specs.Cells.{minus_row, held_and}
 use Rattle.slots.proofs.Fields.{field_is, identifier_is, name_is, of_kind}
 use Rattle.reading.specs.Fields.{identifier_in}

@@ -1,5 +1,5 @@
 -- Books of cells keep the laws of books, and change as the cells do.
-use Rattle.std.proofs.Common.{◌≡◌, ℕ, ◌+◌, Bool, true, false, cond, not, ◌||◌, ltb, leb, [], ◌∷◌, is_some, Some, None, MatchBool, Option, sym, refl, ap, ◌∙◌, subst, inl, inr, arith}
+use Rattle.std.proofs.Common.{◌≡◌, ℕ, ◌+◌, Bool, true, false, cond, ◌||◌, ltb, leb, [], ◌∷◌, is_some, Some, None, MatchBool, Option, sym, refl, ap, ◌∙◌, subst, inl, inr, arith}
 use mathlib.Core.Path.{fun_ext}
 use Rattle.std.proofs.lemmas.Bool.{and_from, and_parts, both_ways, cases_Bool, le-leb, leb-true, not_from_false, not-true, false≢true}
 use Rattle.std.proofs.lemmas.Bool.Decides.{nat_tests}
@@ -12,7 +12,7 @@ use Rattle.books.specs.Same.{same_mark}
 use Rattle.books.specs.Counts.{Counts, none, Fewer, Kind, a_record, a_mark, an_outgoing, more}
 use Rattle.books.specs.Sides.{on}
 use Rattle.books.specs.Lists.{any}
-use Rattle.books.specs.Books.{Rows, NoRow, Laws, Operation, put_record, put_mark, put_outgoing, remove_record, remove_mark, remove_outgoing, kind, chain_of, puts, present, updated, apply, Takes, Gives, Places, Step, goes, Tried}
+use Rattle.books.specs.Books.{Rows, NoRow, Laws, Operation, put_record, put_mark, put_outgoing, remove_record, remove_mark, remove_outgoing, kind, chain_of, puts, present, updated, apply, Takes, Gives, Places, Step, Tried}
 use Rattle.books.specs.declared.side.Side.{Side}
 use Rattle.books.proofs.Lists.{split, In, any_in, in_any}
 use Rattle.books.specs.SameLemmas.{sign_decides}

@@ -1,4 +1,4 @@
-use Rattle.std.proofs.Common.{sym, ◌∙◌}
+use Rattle.std.proofs.Common.{◌∙◌}
 use Rattle.std.proofs.lemmas.List.{get_or_default}
 use Rattle.format.proofs.Numbers.{number_of_four}
 use Rattle.seals.proofs.Rows.{past_rows, at_row}
