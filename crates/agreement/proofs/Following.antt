@@ -240,7 +240,7 @@ module _ (w : Setting) where
   module _ (bs : List BlockValue) (R : Rows) (f : Follows bs R) (takes : Takes w bs) (b : BlockValue) (e : List BlockValue) (part : Part (b ∷ e) bs)
       (row : RecordValue) (there : R.record_at b.chain ≡ Some row) (ran : Ran) (turn : b.height ≡ row.chain.next)
       (chain_is : (step w b e (takes_part w (b ∷ e) bs part takes)).chain ≡ row.chain)
-      (ran-is : (step w b e (takes_part w (b ∷ e) bs part takes)).ran ≡ ran)
+      (ran_is : (step w b e (takes_part w (b ∷ e) bs part takes)).ran ≡ ran)
       (lone : (x : BlockValue) → In x bs → x.chain ≡ b.chain → x.height ≡ b.height → x ≡ b) where
     abbrev c₀ : IdentifierValue
     c₀ = b.chain
@@ -308,7 +308,7 @@ module _ (w : Setting) where
 
     into : (r : EntryValue) → In r ran.sent → In r T.ran.sent
     unfolding T takes_e
-    into r i = subst (λ (q : Ran). In r q.sent) (sym ran-is) i
+    into r i = subst (λ (q : Ran). In r q.sent) (sym ran_is) i
 
     -- what is gone stays so: the rows put now are named by this height
     gone_up : (m : MessageValue) → Gone R m → Gone Rc m
@@ -331,7 +331,7 @@ module _ (w : Setting) where
       b ∷ e,
       part,
       own w.committee w.application (ledger_of w e) b (ledger_of w (b ∷ e)) T (rooted_all w e takes_e.1)
-          ∙ ap Some ((λ i. advanced (block_digest b) (chain_is i) (ran-is i))),
+          ∙ ap Some ((λ i. advanced (block_digest b) (chain_is i) (ran_is i))),
     )
 
     carried : (r : EntryValue) → In r ran.sent → (l : LoadValue) → r.row.load ≡ l → Carried bs r.name r.row.target l

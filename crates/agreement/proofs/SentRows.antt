@@ -66,9 +66,9 @@ module _ (C : CommitteeValue) (A : ApplicationValue) (c : IdentifierValue) (h : 
       let e1 = check_passed (key_allowed C key) (refusal_at 14 k) _ q e in
       let e2 = check_passed (child_allowed c h child) (refusal_at 15 k) _ q e1.1 in
       let e3 = check_passed (not opened) (refusal_at 16 k) _ q e2.1 in
-      let is-child = (identifier_decides child (child_of c h)).0 (and_parts (same_identifier child (child_of c h)) _ e2.0).0 in
+      let is_child = (identifier_decides child (child_of c h)).0 (and_parts (same_identifier child (child_of c h)) _ e2.0).0 in
       let f : entry c h k child (opening key) ∷ [] ≡ q.sent = ap (λ (z : Ran). z.sent) (passed_is e3.1) in
-      ((λ r i. rows r is-child (not-true opened e3.0) (rw (← f) at i)), (λ r r' i j. single r r' (rw (← f) at i) (rw (← f) at j)))
+      ((λ r i. rows r is_child (not-true opened e3.0) (rw (← f) at i)), (λ r r' i j. single r r' (rw (← f) at i) (rw (← f) at j)))
     where
       Only : List EntryValue
       Only = entry c h k child (opening key) ∷ []

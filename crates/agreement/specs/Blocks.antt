@@ -5,7 +5,7 @@ use mathlib.Core.List.{List-discrete}
 use Rattle.std.proofs.Common.{ap, sym, ◌∙◌}
 use Rattle.std.proofs.Math.Decide.{ℕ_discrete}
 use Rattle.std.proofs.Math.IntN.{ℤ_discrete}
-use Rattle.format.specs.Values.{IdentifierValue, DigestValue, MessageValue, CommandValue, command-discrete, BlockValue}
+use Rattle.format.specs.Values.{IdentifierValue, DigestValue, MessageValue, CommandValue, command_discrete, BlockValue}
 
 -- equality is decided in X if it is in Y, of which X is a part
 pub within : {X Y : Type 0} (f : X → Y) (g : Y → X) → ((x : X) → g (f x) ≡ x) → Discrete Y → Discrete X
@@ -24,7 +24,7 @@ message_discrete =
     (×_discrete numbers_discrete (×_discrete ℕ_discrete (×_discrete ℕ_discrete (×_discrete ℕ_discrete ℤ_discrete))))
 
 pub commands_discrete : Discrete (List CommandValue)
-commands_discrete = List-discrete (command-discrete numbers_discrete ℕ_discrete ℤ_discrete message_discrete)
+commands_discrete = List-discrete (command_discrete numbers_discrete ℕ_discrete ℤ_discrete message_discrete)
 
 pub block_discrete : Discrete BlockValue
 block_discrete =

@@ -50,9 +50,9 @@ read_block bs h e =
     let head = given_passed (head_in bs) block_refusal g.0 g.1 in
     let count : length cs.0 ≡ g.0.count = commands_count g.0.count 0 (drop head_len bs) cs.0 cs.1 in
     let same : head_of (block_of g.0 cs.0) ≡ h = ap head_of (passed_is cs.2) ∙ passed_is b.2 in
-    let is-head : g.0 ≡ h =
+    let is_head : g.0 ≡ h =
     (λ i. record { chain = g.0.chain; height = g.0.height; previous = g.0.previous; count = sym count i }) ∙ same in
-    subst (ReadBlock bs) is-head (record { commands = cs.0; read = cs.1; is = b.1 ∙ ap Passed (sym (passed_is cs.2)); long = head_long bs g.0 head; few = head_few bs g.0 head })
+    subst (ReadBlock bs) is_head (record { commands = cs.0; read = cs.1; is = b.1 ∙ ap Passed (sym (passed_is cs.2)); long = head_long bs g.0 head; few = head_few bs g.0 head })
 
 -- the next of the commands that are left
 pub next_command : (n k : ℕ) (bs : List ℕ) (cs : List CommandValue) → 0 < n → commands_in n k bs ≡ Passed cs

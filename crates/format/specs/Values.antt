@@ -27,7 +27,7 @@ pub data CommandValue : Type 0 where
   closes : CommandValue
   executes : ℕ → ℤ → IdentifierValue → CommandValue
   receives : MessageValue → CommandValue
-  deriving Discrete as command-discrete
+  deriving Discrete as command_discrete
 
 pub record BlockValue : Type 0 where
   pub chain : IdentifierValue

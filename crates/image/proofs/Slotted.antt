@@ -109,15 +109,15 @@ pub cell_at : (bs : List ℕ) (i : ℕ) → i < usable bs → get_or (cells bs) 
 cell_at bs i l = let m : i < length (slots bs) = omega (arith, length_slots bs) in get_or-map row_in (slots bs) i [] None m
 
 -- a test of the bytes of slots that is a test of what they hold
-any_cells : (test : List ℕ → Bool) (on-cell : Option RowValue → Bool) → ((s : List ℕ) → Exact s → test s ≡ on-cell (row_in s)) → (ss : List (List ℕ)) → map (λ s. slot_bytes (row_in s)) ss ≡ ss → any test ss ≡ any on-cell (map row_in ss)
-any_cells test on-cell f [] e = refl
-any_cells test on-cell f (s ∷ ss) e =
+any_cells : (test : List ℕ → Bool) (on_cell : Option RowValue → Bool) → ((s : List ℕ) → Exact s → test s ≡ on_cell (row_in s)) → (ss : List (List ℕ)) → map (λ s. slot_bytes (row_in s)) ss ≡ ss → any test ss ≡ any on_cell (map row_in ss)
+any_cells test on_cell f [] e = refl
+any_cells test on_cell f (s ∷ ss) e =
     let head : slot_bytes (row_in s) ≡ s = cc in
     let tail : map (λ s. slot_bytes (row_in s)) ss ≡ ss = cc in
-    (λ i. f s head i || any_cells test on-cell f ss tail i)
+    (λ i. f s head i || any_cells test on_cell f ss tail i)
 
-pub any_held : (test : List ℕ → Bool) (on-cell : Option RowValue → Bool) → ((s : List ℕ) → Exact s → test s ≡ on-cell (row_in s)) → (bs : List ℕ) → SlotsExact bs → any test (slots bs) ≡ any on-cell (cells bs)
-any_held test on-cell f bs h = any_cells test on-cell f (slots bs) h
+pub any_held : (test : List ℕ → Bool) (on_cell : Option RowValue → Bool) → ((s : List ℕ) → Exact s → test s ≡ on_cell (row_in s)) → (bs : List ℕ) → SlotsExact bs → any test (slots bs) ≡ any on_cell (cells bs)
+any_held test on_cell f bs h = any_cells test on_cell f (slots bs) h
 
 -- ---- a cleared memory
 zero_slots : (n : ℕ) (z : List ℕ) → slots_in n (replicate (n * slot_len) 0 ++ z) ≡ replicate n (replicate slot_len 0)

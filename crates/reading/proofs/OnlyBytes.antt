@@ -69,22 +69,22 @@ identifier_only bs c low e =
     let d = get_or bs 0 0 in
     let ns = numbers_in max_depth (drop depth_len bs) in
     let t = some_cond (well_formed d ns) (Some (take d ns)) c s.1 in
-    let c-is : take d ns ≡ c = let v = t.1 in cc in
+    let c_is : take d ns ≡ c = let v = t.1 in cc in
     let four = length_numbers max_depth (drop depth_len bs) in
     let rest : length (drop depth_len bs) ≡ max_depth * number_len = simp length-drop (omega (arith, long)) in
-    let low-rest = All-drop Byte depth_len bs low in
+    let low_rest = All-drop Byte depth_len bs low in
     let some = leb-true 1 d (and_parts (leb 1 d) _ t.0).0 in
     let depth = depth_is d ns four t.0 in
     record {
       same =
           drop_more bs 0 0 (omega (arith, long))
-          ∙ (λ i. sym depth i ∷ sym (numbers_only max_depth (drop depth_len bs) rest low-rest) i)
+          ∙ (λ i. sym depth i ∷ sym (numbers_only max_depth (drop depth_len bs) rest low_rest) i)
           ∙ (λ i. length (take d ns) ∷ flat_map (to_bytes number_len) (sym (padded_is d ns four t.0) i))
-          ∙ (λ i. length (c-is i) ∷ flat_map (to_bytes number_len) (padded (c-is i)));
-      rule = subst Identifies c-is (record {
+          ∙ (λ i. length (c_is i) ∷ flat_map (to_bytes number_len) (padded (c_is i)));
+      rule = subst Identifies c_is (record {
         some = omega (arith, depth, some);
         few = omega (arith, depth, depth_low d ns four t.0);
-        fit = All-take (λ x. x < 256 ^ number_len) d ns (numbers_fit max_depth (drop depth_len bs) rest low-rest);
+        fit = All-take (λ x. x < 256 ^ number_len) d ns (numbers_fit max_depth (drop depth_len bs) rest low_rest);
       });
     }
 
@@ -110,8 +110,8 @@ name_only bs n low e =
     let t = mapped_some _ (identifier_in (take identifier_len bs)) n s.1 in
     let sender = identifier_only (take identifier_len bs) t.0 (All-take Byte identifier_len bs low) t.1 in
     let hs = take height_len (drop identifier_len bs) in
-    let hs-long : length hs ≡ height_len = simp (length-take, length-drop) (omega (arith, long)) in
-    let height = bytes_back height_len hs hs-long (All-take Byte height_len (drop identifier_len bs) (All-drop Byte identifier_len bs low)) in
+    let hs_long : length hs ≡ height_len = simp (length-take, length-drop) (omega (arith, long)) in
+    let height = bytes_back height_len hs hs_long (All-take Byte height_len (drop identifier_len bs) (All-drop Byte identifier_len bs low)) in
     let last : drop (identifier_len + height_len) bs ≡ name_index bs ∷ []
     = drop_more bs (identifier_len + height_len) 0 (omega (arith, long)) ∙ ap (λ z. name_index bs ∷ z) (drop_all name_len bs (omega (arith, long))) in
     let tail : drop identifier_len bs ≡ to_bytes height_len (name_height bs) ++ (name_index bs ∷ [])
@@ -134,15 +134,15 @@ message_only bs m low e =
     let t = mapped_some _ (name_in (take name_len bs)) m s.1 in
     let name = name_only (take name_len bs) t.0 (All-take Byte name_len bs low) t.1 in
     let vs = drop (name_len + code_len) bs in
-    let vs-long : length vs ≡ value_len = simp length-drop (omega (arith, long)) in
-    let vs-low = All-drop Byte (name_len + code_len) bs low in
+    let vs_long : length vs ≡ value_len = simp length-drop (omega (arith, long)) in
+    let vs_low = All-drop Byte (name_len + code_len) bs low in
     let tail : drop name_len bs ≡ get_or bs name_len 0 ∷ signed_bytes (signed_number vs)
-    = drop_more bs name_len 0 (omega (arith, long)) ∙ ap (λ z. get_or bs name_len 0 ∷ z) (sym (signed_only vs vs-long vs-low)) in
+    = drop_more bs name_len 0 (omega (arith, long)) ∙ ap (λ z. get_or bs name_len 0 ∷ z) (sym (signed_only vs vs_long vs_low)) in
     record {
       same =
           split name_len bs ∙ (λ i. name.same i ++ tail i)
           ∙ ap (λ x. name_bytes x.name ++ (x.code ∷ signed_bytes x.value)) (sym t.2);
-      rule = subst MessageRule (sym t.2) (name.rule.0, All-get_or Byte bs name_len 0 (omega (arith, long)) low, signed_fits vs vs-long vs-low, name.rule.1);
+      rule = subst MessageRule (sym t.2) (name.rule.0, All-get_or Byte bs name_len 0 (omega (arith, long)) low, signed_fits vs vs_long vs_low, name.rule.1);
     }
 
 -- a command within the widths of its fields and its rules
@@ -161,10 +161,10 @@ open_only xs o low e =
     let t = mapped_some _ (identifier_in (take identifier_len xs)) o s.1 in
     let child = identifier_only (take identifier_len xs) t.0 (All-take Byte identifier_len xs low) t.1 in
     let ks = drop identifier_len xs in
-    let ks-long : length ks ≡ key_len = simp length-drop (omega (arith, long)) in
-    let ks-low = All-drop Byte identifier_len xs low in (
-      ap (λ z. open_byte ∷ z) (split identifier_len xs ∙ (λ i. child.same i ++ sym (bytes_back key_len ks ks-long ks-low) i)) ∙ ap command_bytes (sym t.2),
-      subst CommandRule (sym t.2) ((child.rule, subst (λ w. from_bytes ks < 256 ^ w) ks-long (number_low ks ks-low)), refl),
+    let ks_long : length ks ≡ key_len = simp length-drop (omega (arith, long)) in
+    let ks_low = All-drop Byte identifier_len xs low in (
+      ap (λ z. open_byte ∷ z) (split identifier_len xs ∙ (λ i. child.same i ++ sym (bytes_back key_len ks ks_long ks_low) i)) ∙ ap command_bytes (sym t.2),
+      subst CommandRule (sym t.2) ((child.rule, subst (λ w. from_bytes ks < 256 ^ w) ks_long (number_low ks ks_low)), refl),
     )
 
 pub change_only : (xs : List ℕ) (o : CommandValue) → AllByRecursion Byte xs → change_in xs ≡ Some o → OnlyBehind change_byte xs o
@@ -185,12 +185,12 @@ execute_only xs o low e =
     let t = mapped_some _ (identifier_in (drop (code_len + value_len) xs)) o s.1 in
     let target = identifier_only (drop (code_len + value_len) xs) t.0 (All-drop Byte (code_len + value_len) xs low) t.1 in
     let vs = take value_len (drop code_len xs) in
-    let vs-long : length vs ≡ value_len = simp (length-take, length-drop) (omega (arith, long)) in
-    let vs-low = All-take Byte value_len (drop code_len xs) (All-drop Byte code_len xs low) in
+    let vs_long : length vs ≡ value_len = simp (length-take, length-drop) (omega (arith, long)) in
+    let vs_low = All-take Byte value_len (drop code_len xs) (All-drop Byte code_len xs low) in
     let tail : drop code_len xs ≡ signed_bytes (signed_number vs) ++ identifier_bytes t.0
-    = split value_len (drop code_len xs) ∙ (λ i. sym (signed_only vs vs-long vs-low) i ++ drop-drop value_len code_len xs i) ∙ ap (λ z. signed_bytes (signed_number vs) ++ z) target.same in (
+    = split value_len (drop code_len xs) ∙ (λ i. sym (signed_only vs vs_long vs_low) i ++ drop-drop value_len code_len xs i) ∙ ap (λ z. signed_bytes (signed_number vs) ++ z) target.same in (
       ap (λ z. execute_byte ∷ z) (drop_more xs 0 0 (omega (arith, long)) ∙ ap (λ z. get_or xs 0 0 ∷ z) tail) ∙ ap command_bytes (sym t.2),
-      subst CommandRule (sym t.2) ((All-get_or Byte xs 0 0 (omega (arith, long)) low, signed_fits vs vs-long vs-low, target.rule), refl),
+      subst CommandRule (sym t.2) ((All-get_or Byte xs 0 0 (omega (arith, long)) low, signed_fits vs vs_long vs_low, target.rule), refl),
     )
 
 pub receive_only : (xs : List ℕ) (o : CommandValue) → AllByRecursion Byte xs → receive_in xs ≡ Some o → OnlyBehind receive_byte xs o

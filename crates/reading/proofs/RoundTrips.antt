@@ -102,8 +102,8 @@ head_only bs h low e =
     let t = mapped_some (head_of_chain bs) (identifier_in (take identifier_len bs)) h s.1 in
     let chain = identifier_only (take identifier_len bs) t.0 (All-take Byte identifier_len bs low) t.1 in
     let hs = take height_len (drop height_at bs) in
-    let hs-long : length hs ≡ height_len = simp (length-take, length-drop) (omega (arith, long)) in
-    let height = bytes_back height_len hs hs-long (All-take Byte height_len (drop height_at bs) (All-drop Byte height_at bs low)) in
+    let hs_long : length hs ≡ height_len = simp (length-take, length-drop) (omega (arith, long)) in
+    let height = bytes_back height_len hs hs_long (All-take Byte height_len (drop height_at bs) (All-drop Byte height_at bs low)) in
     let last : drop count_at bs ≡ head_count bs ∷ drop head_len bs = drop_more bs count_at 0 (omega (arith, long)) in
     let from_previous : drop previous_at bs ≡ head_previous bs ++ (head_count bs ∷ drop head_len bs)
     = split digest_len (drop previous_at bs) ∙ ap (λ z. head_previous bs ++ z) (drop-drop digest_len previous_at bs ∙ last) in

@@ -77,7 +77,7 @@ loop-part-preserved g c =
     let room : k + v.left ≤ max_commands = inv.3 in
     let at : k ≡ v.place = inv.1 in
     let next_place : w.place ≡ v.place + 1 = ap (λ (z : CursorValue). z.place) moved.on in
-    let next-left : w.left ≡ v.left - 1 = ap (λ (z : CursorValue). z.left) moved.on in (
+    let next_left : w.left ≡ v.left - 1 = ap (λ (z : CursorValue). z.left) moved.on in (
       run_goes_on C A M (record_value c.args.row.now).chain c.args.block.bytes.now (head_value c.args.head.now) k (draft_value c.loop-part.draft)
           v w c.in-Some.part inv.0.0 moved inv.0.1 inv.0.2 (step_answer k c.run_part.result d) c.run_part.ensures.value d
           (ap (λ r. step_answer k r d) c.in_default-run_part.is),

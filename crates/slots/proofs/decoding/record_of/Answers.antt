@@ -7,10 +7,10 @@ use Rattle.slots.proofs.decoding.record_of.Goals as goal
 pub returns : goal.returns
 unfolding record_fields
 returns c =
-    let fits-a : SFits w64 c.value_in.result = search rules in
-    let fits-b : SFits w64 c.value_in-2.result = search rules in
-    let a = to_z-of_z w64 c.value_in.result fits-a ∙ c.value_in.ensures in
-    let b = to_z-of_z w64 c.value_in-2.result fits-b ∙ c.value_in-2.ensures in
+    let fits_a : SFits w64 c.value_in.result = search rules in
+    let fits_b : SFits w64 c.value_in-2.result = search rules in
+    let a = to_z-of_z w64 c.value_in.result fits_a ∙ c.value_in.ensures in
+    let b = to_z-of_z w64 c.value_in-2.result fits_b ∙ c.value_in-2.ensures in
     λ i. (
       identifier_value c.args.identifier,
       record {
