@@ -1,5 +1,6 @@
 pub mod Steps
 pub mod Ring
 pub mod Stock
+pub mod Numbered
 pub mod Tallies
 pub mod Meaning

@@ -3,7 +3,7 @@ ghost use Rattle.std.specs.Prelude.{◌≡◌, pos};
 ghost use Rattle.std.specs.Option.{option_map};
 ghost use Rattle.applications.specs.Meaning.{sent_value, step_value};
 ghost use Rattle.applications.specs.Ring.{counted, ring_message, ring_operation};
-ghost use Rattle.std.proofs.Common.{rules};
+ghost use Rattle.applications.specs.Numbered.{ring_message_numbered, ring_operation_numbered};
 
 use crate::application::{Application, ApplicationFault, Sent, Step};
 
@@ -44,9 +44,9 @@ impl Application for RingRegister {
 
     ghost message = { ring_message };
 
-    ghost operation_numbered = { Prim.search rules };
+    ghost operation_numbered = { ring_operation_numbered };
 
-    ghost message_numbered = { Prim.search rules };
+    ghost message_numbered = { ring_message_numbered };
 
     fn start() -> (i64, i64) {
         (0, 0)

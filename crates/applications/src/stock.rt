@@ -2,7 +2,7 @@
 ghost use Rattle.std.specs.Prelude.{◌≡◌, pos, ◌+ℤ◌, None};
 ghost use Rattle.applications.specs.Meaning.{step_value};
 ghost use Rattle.applications.specs.Stock.{order, said, stock_message, stock_operation, taking, without_taking};
-ghost use Rattle.std.proofs.Common.{rules};
+ghost use Rattle.applications.specs.Numbered.{stock_message_numbered, stock_operation_numbered};
 
 use crate::application::{Application, ApplicationFault, Sent, Step};
 
@@ -102,9 +102,9 @@ impl Application for SegmentStock {
 
     ghost message = { stock_message };
 
-    ghost operation_numbered = { Prim.search rules };
+    ghost operation_numbered = { stock_operation_numbered };
 
-    ghost message_numbered = { Prim.search rules };
+    ghost message_numbered = { stock_message_numbered };
 
     fn start() -> (i64, i64) {
         (0, 0)
