@@ -8,12 +8,12 @@ ghost use Rattle.reading.specs.Cursors.{Found};
 ghost use Rattle.reading.specs.Parts.{placed};
 ghost use Rattle.reading.specs.Views.{cut, view_value, viewed};
 
-use crate::fields::{key_in, read_identifier, read_message, value_in};
+use crate::fields::{read_identifier, read_message};
 use crate::part::Part;
 use format::layout::{
     CODE_LEN, COMMAND_BYTE_LEN, HEIGHT_LEN, IDENTIFIER_LEN, KEY_LEN, NAME_LEN, VALUE_LEN,
 };
-use format::{Command, layout};
+use format::{Command, Key, layout, value_from_bytes};
 
 /// A command by its byte, and its operands as one part of the frame.
 #[derive(Clone, Copy)]
@@ -53,20 +53,15 @@ fn read_open(operands: &[u8]) -> Option<Command>
     if operands.len() != layout::OPEN_LEN {
         return None;
     }
-    let Some(child) = read_identifier(&operands[0..IDENTIFIER_LEN]) else {
-        return None;
-    };
-    let key = key_in(&operands[IDENTIFIER_LEN..]);
+    let child = read_identifier(&operands[..IDENTIFIER_LEN])?;
+    let key = Key::from_bytes(*operands.last_chunk()?);
     Some(Command::Open { child, key })
 }
 
 fn read_change(operands: &[u8]) -> Option<Command>
     ensures { option_map command_value result ≡ change_in operands.now }
 {
-    if operands.len() != layout::CHANGE_LEN {
-        return None;
-    }
-    let key = key_in(operands);
+    let key = Key::from_bytes(operands.try_into().ok()?);
     Some(Command::Change { key })
 }
 
@@ -76,11 +71,9 @@ fn read_execute(operands: &[u8]) -> Option<Command>
     if operands.len() != layout::EXECUTE_LEN {
         return None;
     }
-    let Some(target) = read_identifier(&operands[CODE_LEN + VALUE_LEN..]) else {
-        return None;
-    };
+    let target = read_identifier(&operands[CODE_LEN + VALUE_LEN..])?;
     let code = operands[0];
-    let argument = value_in(&operands[CODE_LEN..CODE_LEN + VALUE_LEN]);
+    let argument = value_from_bytes(*operands[CODE_LEN..].first_chunk()?);
     Some(Command::Execute {
         code,
         argument,
@@ -91,9 +84,7 @@ fn read_execute(operands: &[u8]) -> Option<Command>
 fn read_receive(operands: &[u8]) -> Option<Command>
     ensures { option_map command_value result ≡ receive_in operands.now }
 {
-    let Some(message) = read_message(operands) else {
-        return None;
-    };
+    let message = read_message(operands)?;
     Some(Command::Receive { message })
 }
 
@@ -215,8 +206,6 @@ pub(crate) fn read_command<'a>(rest: &'a [u8], at: usize) -> Option<CommandPart<
         bytes: &rest[COMMAND_BYTE_LEN..end],
     };
     let command = CommandPart { byte, operands };
-    let Some(_) = command.value() else {
-        return None;
-    };
+    command.value()?;
     Some(command)
 }
