@@ -9,6 +9,7 @@ ghost use Rattle.reading.specs.Parts.{placed};
 ghost use Rattle.reading.specs.Views.{cut, view_value, viewed};
 
 use crate::fields::{read_identifier, read_message};
+use crate::operands::Operands;
 use crate::part::Part;
 use format::layout::{
     CODE_LEN, COMMAND_BYTE_LEN, HEIGHT_LEN, IDENTIFIER_LEN, KEY_LEN, NAME_LEN, VALUE_LEN,
@@ -108,18 +109,19 @@ impl<'a> CommandPart<'a> {
     pub fn view(&self) -> Option<CommandView<'a>>
         ensures { option_map view_value result ≡ viewed self.now.byte (placed self.now.operands) }
     {
-        let p = self.operands;
-        if p.bytes.len() != operands_len(self.byte) || p.at > usize::MAX - p.bytes.len() {
+        let part = self.operands;
+        if part.bytes.len() != operands_len(self.byte) || part.at > usize::MAX - part.bytes.len() {
             return None;
         }
+        let operands = Operands { part };
         match self.byte {
-            layout::OPEN => Some(view_open(p)),
+            layout::OPEN => Some(view_open(operands)),
             layout::CHANGE => Some(CommandView::Change {
-                key: cut_part(p, 0, KEY_LEN),
+                key: operands.cut(0, KEY_LEN),
             }),
             layout::CLOSE => Some(CommandView::Close),
-            layout::EXECUTE => Some(view_execute(p)),
-            layout::RECEIVE => Some(view_receive(p)),
+            layout::EXECUTE => Some(view_execute(operands)),
+            layout::RECEIVE => Some(view_receive(operands)),
             _ => None,
         }
     }
@@ -139,52 +141,37 @@ fn operands_len(byte: u8) -> usize
     }
 }
 
-// A part of a part.
-fn cut_part<'a>(p: Part<'a>, from: usize, end: usize) -> Part<'a>
-    requires { (from ≤ end) × ((end ≤ length p.bytes.now) × (p.at + length p.bytes.now < 2 ^ 64)) }
-    ensures { placed result ≡ (p.entry.at + from, take (end - from) (drop from p.entry.bytes.now)) }
-{
-    Part {
-        at: p.at + from,
-        bytes: &p.bytes[from..end],
-    }
-}
-
-fn view_open<'a>(p: Part<'a>) -> CommandView<'a>
-    requires { (length p.bytes.now ≡ open_len) × (p.at + length p.bytes.now < 2 ^ 64) }
-    ensures { view_value result ≡ (open_byte, cut (placed p.entry) 0 (identifier_len ∷ key_len ∷ [])) }
+fn view_open<'a>(operands: Operands<'a>) -> CommandView<'a>
+    requires { length operands.part.bytes.now ≡ open_len }
+    ensures { view_value result ≡ (open_byte, cut (placed operands.entry.part) 0 (identifier_len ∷ key_len ∷ [])) }
 {
     CommandView::Open {
-        child: cut_part(p, 0, IDENTIFIER_LEN),
-        key: cut_part(p, IDENTIFIER_LEN, IDENTIFIER_LEN + KEY_LEN),
+        child: operands.cut(0, IDENTIFIER_LEN),
+        key: operands.cut(IDENTIFIER_LEN, IDENTIFIER_LEN + KEY_LEN),
     }
 }
 
-fn view_execute<'a>(p: Part<'a>) -> CommandView<'a>
-    requires { (length p.bytes.now ≡ execute_len) × (p.at + length p.bytes.now < 2 ^ 64) }
-    ensures { view_value result ≡ (execute_byte, cut (placed p.entry) 0 (code_len ∷ value_len ∷ identifier_len ∷ [])) }
+fn view_execute<'a>(operands: Operands<'a>) -> CommandView<'a>
+    requires { length operands.part.bytes.now ≡ execute_len }
+    ensures { view_value result ≡ (execute_byte, cut (placed operands.entry.part) 0 (code_len ∷ value_len ∷ identifier_len ∷ [])) }
 {
     CommandView::Execute {
-        code: cut_part(p, 0, CODE_LEN),
-        argument: cut_part(p, CODE_LEN, CODE_LEN + VALUE_LEN),
-        target: cut_part(
-            p,
-            CODE_LEN + VALUE_LEN,
-            CODE_LEN + VALUE_LEN + IDENTIFIER_LEN,
-        ),
+        code: operands.cut(0, CODE_LEN),
+        argument: operands.cut(CODE_LEN, CODE_LEN + VALUE_LEN),
+        target: operands.cut(CODE_LEN + VALUE_LEN, CODE_LEN + VALUE_LEN + IDENTIFIER_LEN),
     }
 }
 
-fn view_receive<'a>(p: Part<'a>) -> CommandView<'a>
-    requires { (length p.bytes.now ≡ receive_len) × (p.at + length p.bytes.now < 2 ^ 64) }
-    ensures { view_value result ≡ (receive_byte, cut (placed p.entry) 0 (identifier_len ∷ height_len ∷ index_len ∷ code_len ∷ value_len ∷ [])) }
+fn view_receive<'a>(operands: Operands<'a>) -> CommandView<'a>
+    requires { length operands.part.bytes.now ≡ receive_len }
+    ensures { view_value result ≡ (receive_byte, cut (placed operands.entry.part) 0 (identifier_len ∷ height_len ∷ index_len ∷ code_len ∷ value_len ∷ [])) }
 {
     CommandView::Receive {
-        sender: cut_part(p, 0, IDENTIFIER_LEN),
-        height: cut_part(p, IDENTIFIER_LEN, IDENTIFIER_LEN + HEIGHT_LEN),
-        index: cut_part(p, IDENTIFIER_LEN + HEIGHT_LEN, NAME_LEN),
-        code: cut_part(p, NAME_LEN, NAME_LEN + CODE_LEN),
-        value: cut_part(p, NAME_LEN + CODE_LEN, NAME_LEN + CODE_LEN + VALUE_LEN),
+        sender: operands.cut(0, IDENTIFIER_LEN),
+        height: operands.cut(IDENTIFIER_LEN, IDENTIFIER_LEN + HEIGHT_LEN),
+        index: operands.cut(IDENTIFIER_LEN + HEIGHT_LEN, NAME_LEN),
+        code: operands.cut(NAME_LEN, NAME_LEN + CODE_LEN),
+        value: operands.cut(NAME_LEN + CODE_LEN, NAME_LEN + CODE_LEN + VALUE_LEN),
     }
 }
 

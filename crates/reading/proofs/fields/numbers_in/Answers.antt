@@ -14,10 +14,10 @@ returns c =
     let rest_is = take_rest c.args.bytes.now depth_len in
     let count : length rest / number_len ≡ max_depth = omega (arith, length-drop depth_len c.args.bytes.now, c.requires) in
     let front : c.as_chunks.result.0.now ≡ first_chunks number_len max_depth rest =
-        c.as_chunks.ensures.front ∙ (λ i. first_chunks number_len (length (rest_is i) / number_len) (rest_is i)) ∙ ap (λ n. first_chunks number_len n rest) count in
+    c.as_chunks.ensures.front ∙ (λ i. first_chunks number_len (length (rest_is i) / number_len) (rest_is i)) ∙ ap (λ n. first_chunks number_len n rest) count in
     let same : numbers ≡ first_chunks number_len max_depth rest = search rules in
     let long : (k : ℕ) → k < max_depth → length (get_or numbers k []) ≡ number_len =
-        λ k h. ap (λ xs. length (get_or xs k [])) same ∙ chunk_length number_len max_depth rest k (omega (arith, length-drop depth_len c.args.bytes.now, c.requires)) h in
+    λ k h. ap (λ xs. length (get_or xs k [])) same ∙ chunk_length number_len max_depth rest k (omega (arith, length-drop depth_len c.args.bytes.now, c.requires)) h in
     map_by_places from_bytes [] numbers c.map.result (search rules)
     (λ k h. (items.at k [] 0 (search rules)).2.met ∙ number_of_two (get_or numbers k []) (long k (search rules)))
     ∙ ap (map from_bytes) same
