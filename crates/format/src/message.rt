@@ -10,6 +10,7 @@ use crate::fields::{Height, value_to_bytes};
 use crate::identifier::Identifier;
 use crate::layout::{NAME_LEN, RECEIVE_LEN};
 use crate::writing::write_at;
+use std::fmt;
 
 /// What names a message: the height and chain of the block that sent it, and the place of the
 /// command that did, from 0. Names are ordered by height, then sender, then index.
@@ -36,6 +37,13 @@ impl Name {
     }
 }
 
+impl fmt::Display for Name {
+    // `SENDER HEIGHT INDEX`.
+    fn fmt<W: fmt::Write>(&self, f: &mut fmt::Formatter<W>) -> fmt::Result {
+        write!(f, "{} {} {}", self.sender, self.height, self.index)
+    }
+}
+
 /// A message between chains: the five operands of a Receive.
 #[derive(Clone, Copy, PartialEq, Eq, Debug)]
 pub struct Message {
@@ -56,5 +64,12 @@ impl Message {
         let at = write_at(&mut bytes, at, &[self.code]);
         write_at(&mut bytes, at, &value_to_bytes(self.value));
         bytes
+    }
+}
+
+impl fmt::Display for Message {
+    // `SENDER HEIGHT INDEX CODE VALUE`.
+    fn fmt<W: fmt::Write>(&self, f: &mut fmt::Formatter<W>) -> fmt::Result {
+        write!(f, "{} {} {}", self.name, self.code, self.value)
     }
 }
