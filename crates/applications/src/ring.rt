@@ -1,8 +1,8 @@
 //! The ring register: a counts rings, b those left of the axis.
-ghost use Rattle.std.specs.Prelude.{◌≡◌, pos};
+ghost use Rattle.std.specs.Prelude.{◌≡◌};
 ghost use Rattle.std.specs.Option.{option_map};
 ghost use Rattle.applications.specs.Meaning.{sent_value, step_value};
-ghost use Rattle.applications.specs.Ring.{counted, ring_message, ring_operation};
+ghost use Rattle.applications.specs.Ring.{counted, ring_register};
 ghost use Rattle.applications.specs.Numbered.{ring_message_numbered, ring_operation_numbered};
 
 use crate::application::{Application, ApplicationFault, Sent, Step};
@@ -36,13 +36,7 @@ fn count(a: i64, b: i64, offset: i64, sent: Option<Sent>) -> Result<Step, Applic
 }
 
 impl Application for RingRegister {
-    ghost start_a = { pos 0 };
-
-    ghost start_b = { pos 0 };
-
-    ghost operation = { ring_operation };
-
-    ghost message = { ring_message };
+    ghost meaning = { ring_register };
 
     ghost operation_numbered = { ring_operation_numbered };
 

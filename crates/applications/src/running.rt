@@ -28,7 +28,7 @@ pub struct Tally {
 }
 
 fn make_step<A: Application>(a: i64, b: i64, asked: &Asked) -> Result<Step, ApplicationFault>
-    ensures { step_value result ≡ made A.Application.operation A.Application.message a b (asked_value asked.now) }
+    ensures { step_value result ≡ made A.Application.meaning a b (asked_value asked.now) }
 {
     match asked {
         Asked::Operation { code, value } => A::operate(a, b, *code, *value),
@@ -39,7 +39,7 @@ fn make_step<A: Application>(a: i64, b: i64, asked: &Asked) -> Result<Step, Appl
 /// Makes the steps in order, from the numbers of a new chain. Where none is refused, the ring register has counted the rings
 /// and those left of the axis, and the segment stock has what was added less what was taken, and what arrived.
 pub fn run_steps<A: Application>(steps: &[Asked]) -> Tally
-    ensures value { tally_value result ≡ tally_from A.Application.operation A.Application.message (map asked_value steps.now) 0 A.Application.start_a A.Application.start_b }
+    ensures value { tally_value result ≡ tally_from A.Application.meaning (map asked_value steps.now) 0 A.Application.meaning.start_a A.Application.meaning.start_b }
     ensures rings { RingsAreCounted }
     ensures stock { StockBalances }
 {

@@ -1,7 +1,7 @@
 //! The segment stock: a is what a chain has, b what arrived by messages.
-ghost use Rattle.std.specs.Prelude.{◌≡◌, pos, ◌+ℤ◌, None};
+ghost use Rattle.std.specs.Prelude.{◌≡◌, ◌+ℤ◌, None};
 ghost use Rattle.applications.specs.Meaning.{step_value};
-ghost use Rattle.applications.specs.Stock.{order, said, stock_message, stock_operation, taking, without_taking};
+ghost use Rattle.applications.specs.Stock.{order, said, segment_stock, taking, without_taking};
 ghost use Rattle.applications.specs.Numbered.{stock_message_numbered, stock_operation_numbered};
 
 use crate::application::{Application, ApplicationFault, Sent, Step};
@@ -94,13 +94,7 @@ fn place_order(a: i64, b: i64, n: i64) -> Result<Step, ApplicationFault>
 }
 
 impl Application for SegmentStock {
-    ghost start_a = { pos 0 };
-
-    ghost start_b = { pos 0 };
-
-    ghost operation = { stock_operation };
-
-    ghost message = { stock_message };
+    ghost meaning = { segment_stock };
 
     ghost operation_numbered = { stock_operation_numbered };
 

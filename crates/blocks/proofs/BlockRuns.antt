@@ -19,7 +19,7 @@ use Rattle.reading.proofs.OnlyBytes.{some_cond, mapped_some}
 use Rattle.reading.proofs.Runs.{step_ok, commands_count}
 use Rattle.committee.specs.Rules.{CommitteeValue}
 use Rattle.books.specs.Values.{ChainValue}
-use Rattle.protocol.specs.Reads.{ApplicationValue}
+use Rattle.applications.specs.Steps.{ApplicationValue}
 use Rattle.protocol.proofs.Outcomes.{refused_passed, passed_is, bind_passed, given_passed, none_some}
 use Rattle.blocks.specs.Drafts.{DraftValue, beginning}
 use Rattle.blocks.specs.Running.{Marks, step_draft, Finished, run_on, finished, block_finished, finished_value}

@@ -6,7 +6,7 @@ use Rattle.committee.specs.Rules.{CommitteeValue}
 use Rattle.books.specs.Values.{MarkValue, marking, plus, minus}
 use Rattle.books.specs.Same.{same_mark}
 use Rattle.books.specs.Books.{Operation, put_record, put_mark, put_outgoing, remove_record, remove_mark, remove_outgoing, updated}
-use Rattle.protocol.specs.Reads.{ApplicationValue}
+use Rattle.applications.specs.Steps.{ApplicationValue}
 use Rattle.protocol.specs.Execution.{Ran, run_command, is_close, is_open, run_commands, received}
 use Rattle.protocol.specs.Calls.{receipts}
 use Rattle.blocks.specs.Drafts.{DraftValue, marks_operation, shown}

@@ -4,7 +4,7 @@ use Rattle.format.specs.Layout.{open_byte, change_byte, close_byte, execute_byte
 use Rattle.format.specs.Values.{IdentifierValue, CommandValue, opens, changes, closes, executes, receives, BlockValue}
 use Rattle.format.specs.Outcomes.{refusal_at, Outcome, Refused, Passed, ◌>>=◌, ◌>>◌, check}
 use Rattle.committee.specs.Rules.{CommitteeValue}
-use Rattle.applications.specs.Steps.{SentValue, StepValue, Refuses, Gives, StepRule}
+use Rattle.applications.specs.Steps.{SentValue, StepValue, Refuses, Gives, StepRule, ApplicationValue}
 use Rattle.books.specs.Values.{ChainValue, MarkValue, opening}
 use Rattle.books.specs.Books.{Operation}
 use Rattle.reading.specs.Blocks.{commands_in, block_in}
@@ -13,7 +13,6 @@ use Rattle.reading.specs.declared.command.CommandPart.{CommandPart}
 use Rattle.faults.specs.Refusals.{command_refusal}
 use Rattle.faults.specs.declared.AtCommand.{AtCommand}
 use Rattle.faults.specs.declared.CommandFault.{CommandFault}
-use Rattle.protocol.specs.Reads.{ApplicationValue}
 use Rattle.protocol.specs.Execution.{child_allowed, Ran, entry, message_entries, run_command, is_close, is_open, run_commands, executed, received}
 use Rattle.protocol.specs.Calls.{receipts}
 use Rattle.blocks.specs.Drafts.{DraftValue, draft_value, shown}

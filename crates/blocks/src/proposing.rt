@@ -11,7 +11,7 @@ ghost use Rattle.format.specs.Values.{BlockValue};
 ghost use Rattle.reading.specs.Blocks.{block_in, block_of};
 ghost use Rattle.faults.specs.Refusals.{call_answer};
 ghost use Rattle.committee.specs.Meaning.{members_value};
-ghost use Rattle.protocol.specs.Reads.{application, scheme};
+ghost use Rattle.protocol.specs.Reads.{scheme};
 ghost use Rattle.blocks.specs.Opened.{Opens};
 ghost use Rattle.reading.specs.Frames.{request_value};
 ghost use Rattle.reading.specs.Parts.{head_value};
@@ -103,7 +103,7 @@ fn consider<A: Application, B: Books, S: Seals>(
 ) -> Result<Record, CallFault>
     requires opens { Opens block.bytes.now (head_value opened.now.head) (digest_value opened.now.digest) }
     requires place { block.at + length block.bytes.now < 2 ^ 64 }
-    ensures value { (b : BlockValue) → block_in block.entry.bytes.now ≡ Passed b → ballot_answer (digest_value opened.now.digest) result ≡ considered (members_value members.now) (application A.Application.start_a A.Application.start_b A.Application.operation A.Application.message) (scheme S.Seals.width (S.Seals.holds seals.now)) (B.Books.meaning books.now) b seal.now }
+    ensures value { (b : BlockValue) → block_in block.entry.bytes.now ≡ Passed b → ballot_answer (digest_value opened.now.digest) result ≡ considered (members_value members.now) A.Application.meaning (scheme S.Seals.width (S.Seals.holds seals.now)) (B.Books.meaning books.now) b seal.now }
     ensures there { FoundAt (B.Books.meaning books.now).rows (identifier_value opened.now.head.chain) result }
 {
     let row = owned_record(books, &opened.head.chain)?;
@@ -132,7 +132,7 @@ fn vote<A: Application, B: Books, S: Seals>(
 ) -> Result<Digest, CallFault>
     requires opens { Opens block.bytes.now (head_value opened.now.head) (digest_value opened.now.digest) }
     requires place { block.at + length block.bytes.now < 2 ^ 64 }
-    ensures change { (b : BlockValue) → block_in block.entry.bytes.now ≡ Passed b → Ends (considered (members_value members.now) (application A.Application.start_a A.Application.start_b A.Application.operation A.Application.message) (scheme S.Seals.width (S.Seals.holds seals.now)) (B.Books.meaning books.old) b seal.now) (B.Books.meaning books.old) (call_answer result) (B.Books.meaning books.new) }
+    ensures change { (b : BlockValue) → block_in block.entry.bytes.now ≡ Passed b → Ends (considered (members_value members.now) A.Application.meaning (scheme S.Seals.width (S.Seals.holds seals.now)) (B.Books.meaning books.old) b seal.now) (B.Books.meaning books.old) (call_answer result) (B.Books.meaning books.new) }
     ensures rest { B.Books.outside books.new ≡ B.Books.outside books.old }
 {
     let row = consider::<A, B, S>(books, seals, members, block, opened, seal)?;
@@ -150,7 +150,7 @@ fn propose_request<A: Application, B: Books, S: Seals>(
     request: Request,
 ) -> Result<Digest, CallFault>
     requires { request.block.at + length request.block.bytes.now < 2 ^ 64 }
-    ensures change { Ends (request_proposed (members_value members.now) (application A.Application.start_a A.Application.start_b A.Application.operation A.Application.message) (scheme S.Seals.width (S.Seals.holds seals.now)) (B.Books.meaning books.old) (request_value request.entry)) (B.Books.meaning books.old) (call_answer result) (B.Books.meaning books.new) }
+    ensures change { Ends (request_proposed (members_value members.now) A.Application.meaning (scheme S.Seals.width (S.Seals.holds seals.now)) (B.Books.meaning books.old) (request_value request.entry)) (B.Books.meaning books.old) (call_answer result) (B.Books.meaning books.new) }
     ensures rest { B.Books.outside books.new ≡ B.Books.outside books.old }
 {
     let opened = open_block(request.block)?;
@@ -174,7 +174,7 @@ pub fn propose<A: Application, B: Books, S: Seals>(
     members: &[Member],
     frame: &[u8],
 ) -> Result<Digest, CallFault>
-    ensures change { Ends (spec_propose (members_value members.now) (application A.Application.start_a A.Application.start_b A.Application.operation A.Application.message) (scheme S.Seals.width (S.Seals.holds seals.now)) (B.Books.meaning books.old) frame.now) (B.Books.meaning books.old) (call_answer result) (B.Books.meaning books.new) }
+    ensures change { Ends (spec_propose (members_value members.now) A.Application.meaning (scheme S.Seals.width (S.Seals.holds seals.now)) (B.Books.meaning books.old) frame.now) (B.Books.meaning books.old) (call_answer result) (B.Books.meaning books.new) }
     ensures rest { B.Books.outside books.new ≡ B.Books.outside books.old }
 {
     if !is_committee(members) {

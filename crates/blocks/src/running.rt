@@ -16,7 +16,6 @@ ghost use Rattle.blocks.specs.Running.{Yields, applied, block_finished, byte_of,
 ghost use Rattle.committee.specs.Meaning.{members_value};
 ghost use Rattle.protocol.specs.Calls.{receipts};
 ghost use Rattle.protocol.specs.Execution.{child_allowed};
-ghost use Rattle.protocol.specs.Reads.{application};
 
 use crate::draft::{Draft, stands};
 use applications::{Application, Step};
@@ -168,7 +167,7 @@ fn run_execute<A: Application>(
 ) -> Result<(), CommandFault>
     requires within { Within draft.old site.now.place }
     requires few { site.now.place < max_commands }
-    ensures value { step_answer site.now.place result (draft_value draft.new) ≡ with_execute A.Application.operation (identifier_value site.now.chain) site.now.height.0 site.now.place (draft_value draft.old) (command_value command.now) }
+    ensures value { step_answer site.now.place result (draft_value draft.new) ≡ with_execute A.Application.meaning.operation (identifier_value site.now.chain) site.now.height.0 site.now.place (draft_value draft.old) (command_value command.now) }
     ensures within { Within draft.new (site.now.place + 1) }
 {
     if let Command::Execute {
@@ -192,7 +191,7 @@ fn run_receive<A: Application, B: Books>(
 ) -> Result<(), CommandFault>
     requires within { Within draft.old site.now.place }
     requires few { site.now.place < max_commands }
-    ensures value { step_answer site.now.place result (draft_value draft.new) ≡ with_receive A.Application.message (B.Books.meaning books.now).rows.marked (identifier_value site.now.chain) site.now.height.0 site.now.place (draft_value draft.old) (command_value command.now) }
+    ensures value { step_answer site.now.place result (draft_value draft.new) ≡ with_receive A.Application.meaning.message (B.Books.meaning books.now).rows.marked (identifier_value site.now.chain) site.now.height.0 site.now.place (draft_value draft.old) (command_value command.now) }
     ensures within { Within draft.new (site.now.place + 1) }
 {
     if let Command::Receive { message } = *command {
@@ -216,7 +215,7 @@ fn run_command<A: Application, B: Books>(
     requires few { site.now.place < max_commands }
     requires byte { byte ≡ byte_of (command_value command.now) }
     requires index { index_of (command_value command.now) ≤ max_index }
-    ensures value { step_answer site.now.place result (draft_value draft.new) ≡ step_draft (members_value members.now) (application A.Application.start_a A.Application.start_b A.Application.operation A.Application.message) (B.Books.meaning books.now).rows.marked (identifier_value site.now.chain) site.now.height.0 site.now.place (draft_value draft.old) (command_value command.now) }
+    ensures value { step_answer site.now.place result (draft_value draft.new) ≡ step_draft (members_value members.now) A.Application.meaning (B.Books.meaning books.now).rows.marked (identifier_value site.now.chain) site.now.height.0 site.now.place (draft_value draft.old) (command_value command.now) }
     ensures within { Within draft.new (site.now.place + 1) }
 {
     match byte {
@@ -257,7 +256,7 @@ fn run_part<A: Application, B: Books>(
     requires within { Within draft.old site.now.place }
     requires few { site.now.place < max_commands }
     requires known { is_some (operands_in part.now.byte part.now.operands.bytes.now) ≡ true }
-    ensures value { (x : CommandValue) → operands_in part.now.byte part.now.operands.bytes.now ≡ Some x → step_answer site.now.place result (draft_value draft.new) ≡ step_draft (members_value members.now) (application A.Application.start_a A.Application.start_b A.Application.operation A.Application.message) (B.Books.meaning books.now).rows.marked (identifier_value site.now.chain) site.now.height.0 site.now.place (draft_value draft.old) x }
+    ensures value { (x : CommandValue) → operands_in part.now.byte part.now.operands.bytes.now ≡ Some x → step_answer site.now.place result (draft_value draft.new) ≡ step_draft (members_value members.now) A.Application.meaning (B.Books.meaning books.now).rows.marked (identifier_value site.now.chain) site.now.height.0 site.now.place (draft_value draft.old) x }
     ensures within { Within draft.new (site.now.place + 1) }
 {
     match part.value() {
@@ -286,7 +285,7 @@ pub(crate) fn run_block<A: Application, B: Books>(
 ) -> Result<Draft, AtCommand>
     requires read { Passed (head_value head.now) ≡ block_head_in block.bytes.now }
     requires place { block.at + length block.bytes.now < 2 ^ 64 }
-    ensures value { run_answer result ≡ block_finished (members_value members.now) (application A.Application.start_a A.Application.start_b A.Application.operation A.Application.message) (B.Books.meaning books.now).rows.marked (record_value row.now).chain block.entry.bytes.now }
+    ensures value { run_answer result ≡ block_finished (members_value members.now) A.Application.meaning (B.Books.meaning books.now).rows.marked (record_value row.now).chain block.entry.bytes.now }
     ensures within { Drafted result }
 {
     let mut draft = Draft::new(row);

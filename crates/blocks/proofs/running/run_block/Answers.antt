@@ -7,7 +7,6 @@ use Rattle.reading.specs.Blocks.{commands_in}
 use Rattle.reading.specs.Cursors.{CursorValue, cursor_value, Handed}
 use Rattle.reading.specs.Parts.{head_value}
 use Rattle.faults.specs.Refusals.{command_refusal}
-use Rattle.protocol.specs.Reads.{application}
 use Rattle.blocks.specs.Drafts.{draft_value}
 use Rattle.blocks.specs.Running.{step_answer}
 use Rattle.blocks.proofs.BlockRuns.{read_block, begins, next_command, handed, run_begins, run_refused, run_goes_on}
@@ -16,7 +15,7 @@ use Rattle.blocks.proofs.running.run_block.Goals as goal
 pub loop-part-init : goal.loop-part-init
 loop-part-init g c =
     let C = members_value c.args.members.now in
-    let A = application g.A.Application.start_a g.A.Application.start_b g.A.Application.operation g.A.Application.message in
+    let A = g.A.Application.meaning in
     let M = (g.B.Books.meaning c.args.books.now).rows.marked in
     let bs = c.args.block.bytes.now in
     let h = head_value c.args.head.now in
@@ -50,7 +49,7 @@ run_part-requires g c =
 pub returns-in-Err : goal.returns-in-Err
 returns-in-Err g c =
     let C = members_value c.args.members.now in
-    let A = application g.A.Application.start_a g.A.Application.start_b g.A.Application.operation g.A.Application.message in
+    let A = g.A.Application.meaning in
     let M = (g.B.Books.meaning c.args.books.now).rows.marked in
     let k = c.loop-part.place in
     let d = draft_value c.run_part.new.draft in
@@ -65,7 +64,7 @@ returns-in-Err g c =
 pub loop-part-preserved : goal.loop-part-preserved
 loop-part-preserved g c =
     let C = members_value c.args.members.now in
-    let A = application g.A.Application.start_a g.A.Application.start_b g.A.Application.operation g.A.Application.message in
+    let A = g.A.Application.meaning in
     let M = (g.B.Books.meaning c.args.books.now).rows.marked in
     let k = c.loop-part.place in
     let d = draft_value c.run_part.new.draft in

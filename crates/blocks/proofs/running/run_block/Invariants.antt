@@ -7,7 +7,6 @@ use Rattle.committee.specs.Meaning.{members_value}
 use Rattle.books.specs.Meaning.{record_value}
 use Rattle.reading.specs.Blocks.{commands_in}
 use Rattle.reading.specs.Cursors.{cursor_value}
-use Rattle.protocol.specs.Reads.{application}
 use Rattle.blocks.specs.Drafts.{Within, draft_value}
 use Rattle.blocks.specs.Running.{block_finished, run_on}
 use Rattle.blocks.proofs.running.run_block.Given as goal
@@ -16,7 +15,7 @@ use Rattle.blocks.proofs.running.run_block.Given as goal
 abbrev pub invariant-loop-part : goal.invariant-loop-part
 invariant-loop-part g l =
     let C = members_value l.members in
-    let A = application g.A.Application.start_a g.A.Application.start_b g.A.Application.operation g.A.Application.message in
+    let A = g.A.Application.meaning in
     let M = (g.B.Books.meaning l.books).rows.marked in
     let v = cursor_value l.cursor in
     ((cs : List CommandValue) × (commands_in v.left v.place v.rest ≡ Passed cs)
