@@ -4,14 +4,14 @@ ghost use Rattle.applications.specs.Meaning.{step_value};
 ghost use Rattle.applications.specs.Steps.{ApplicationValue, RuleNumbered};
 
 /// A message that a step sends.
-#[derive(Clone, Copy)]
+#[derive(Clone, Copy, PartialEq, Eq, Debug)]
 pub struct Sent {
     pub code: u8,
     pub value: i64,
 }
 
 /// The chain's new numbers, and at most one message.
-#[derive(Clone, Copy)]
+#[derive(Clone, Copy, PartialEq, Eq, Debug)]
 pub struct Step {
     pub a: i64,
     pub b: i64,
