@@ -77,10 +77,13 @@ ends_so : (t : Bool) (cs : List CommandValue) → ◌≡◌ {A = Outcome (List C
 ends_so true cs e = (refl, sym (passed_is e))
 ends_so false cs e = absurd (refused_passed e)
 
+pub none_left : (n k : ℕ) (bs : List ℕ) (cs : List CommandValue) → n ≡ 0 → commands_in n k bs ≡ Passed cs → cs ≡ []
+none_left n k bs cs z e = (ends_so (eqb (length bs) 0) cs (nothing_left n k bs cs z e)).1
+
 -- a cursor over commands that can be read does not stop before the last
 pub no_fault : (v w : CursorValue) (f : ReadFault) → Moved v w (Err f) → (cs : List CommandValue) → commands_in v.left v.place v.rest ≡ Passed cs → cs ≡ []
 no_fault v w Frame m cs e = absurd m
-no_fault v w Block m cs e = (ends_so (eqb (length v.rest) 0) cs (nothing_left v.left v.place v.rest cs m.0 e)).1
+no_fault v w Block m cs e = none_left v.left v.place v.rest cs m.0 e
 no_fault v w (Command k) m cs e =
     let s = next_command v.left v.place v.rest cs m.0 e in
     absurd (none_some (sym m.2 ∙ s.2))

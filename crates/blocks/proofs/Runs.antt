@@ -78,7 +78,7 @@ module _ (C : CommitteeValue) (A : ApplicationValue) (M : Marks) (c : Identifier
       λ i. Passed (record { ran = record { state = q.state; sent = sym (append_assoc d.sent r.sent q.sent) i }; operations = receipts_split M c d.operations x xs i })
 
   by_step : (k : ℕ) (d : DraftValue) (x : CommandValue) (xs : List CommandValue) (t : Bool) (o : Outcome Ran)
-      → (s : Outcome DraftValue) → (check t (refusal_at 13 k) >> (o >>= λ r. Passed (after_command M c d x r))) ≡ s
+      → (s : Outcome DraftValue) → ((check t (refusal_at 13 k) >> o) >>= λ r. Passed (after_command M c d x r)) ≡ s
       → ((check t (refusal_at 13 k)
       >> (o >>= λ r. run_commands C A c h (k + 1) (is_close x) (is_open x || d.opened) r.state xs >>= λ q. Passed (behind r q)))
       >>= λ q. Passed (whole d (all_of d (x ∷ xs)) q))

@@ -1,7 +1,6 @@
 //! Proposing a block: the vote of this member.
 ghost use Rattle.std.specs.Prelude.{◌≡◌, ◌+◌, ◌^◌, ◌<◌, ◌||◌, [], length};
 ghost use Rattle.std.specs.Option.{option_map};
-ghost use Rattle.format.specs.Layout.{max_commands};
 ghost use Rattle.format.specs.Meaning.{digest_value, identifier_value};
 ghost use Rattle.books.specs.Lists.{any};
 ghost use Rattle.books.specs.Books.{puts};
@@ -16,10 +15,10 @@ ghost use Rattle.blocks.specs.Opened.{Opens};
 ghost use Rattle.reading.specs.Frames.{request_value};
 ghost use Rattle.reading.specs.Parts.{head_value};
 ghost use Rattle.protocol.specs.Calls.{Ends, chain_in, considered, in_turn, owned, propose as spec_propose, votes_at_most};
-ghost use Rattle.blocks.specs.Drafts.{Within, changes_value, draft_value};
+ghost use Rattle.blocks.specs.Drafts.{draft_value};
 ghost use Rattle.blocks.specs.Proposing.{FoundAt, ballot_answer, chain_answer, check_answer, request_proposed};
 
-use crate::draft::{Change, Draft};
+use crate::draft::{Draft, some_put};
 use crate::opening::{Opened, open_block};
 use crate::running::run_block;
 use applications::Application;
@@ -72,24 +71,12 @@ fn may_vote(vote: Option<Digest>, digest: &Digest) -> bool
     }
 }
 
-// Whether some mark is put.
-fn has_put(changes: &[Change]) -> bool
-    ensures { result ≡ any puts (changes_value changes.now) }
-{
-    for change in changes {
-        if change.put {
-            return true;
-        }
-    }
-    false
-}
-
 // Whether minus marks of the chain remain after the block.
+#[tactic(auto, using(crate::proofs::Drafts::any_put))]
 fn is_owing<B: Books>(books: &B, chain: &Identifier, draft: &Draft) -> bool
-    requires { Within draft.now max_commands }
     ensures { result ≡ ((B.Books.meaning books.now).owing (identifier_value chain.now) || any puts (draft_value draft.now).operations) }
 {
-    books.has_minus(chain) || has_put(&draft.changes[..draft.changed])
+    books.has_minus(chain) || some_put(&draft.changes)
 }
 
 // The record of the chain on which the request's block is voted for. The books are not changed.
