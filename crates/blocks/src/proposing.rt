@@ -11,7 +11,6 @@ ghost use Rattle.reading.specs.Blocks.{block_in, block_of};
 ghost use Rattle.faults.specs.Refusals.{call_answer};
 ghost use Rattle.committee.specs.Meaning.{members_value};
 ghost use Rattle.protocol.specs.Reads.{scheme};
-ghost use Rattle.blocks.specs.Opened.{Opens};
 ghost use Rattle.reading.specs.Frames.{request_value};
 ghost use Rattle.reading.specs.Parts.{head_value};
 ghost use Rattle.protocol.specs.Calls.{Ends, chain_in, considered, in_turn, owned, propose as spec_propose, votes_at_most};
@@ -26,7 +25,7 @@ use books::{Books, Record};
 use committee::{Member, is_committee};
 use faults::CallFault;
 use format::{Digest, Identifier};
-use reading::{Head, Part, Request, read_request};
+use reading::{Head, Request, read_request};
 use seals::Seals;
 
 // The record of a chain that has an owner.
@@ -84,13 +83,10 @@ fn consider<A: Application, B: Books, S: Seals>(
     books: &B,
     seals: &S,
     members: &[Member],
-    block: Part,
     opened: &Opened,
     seal: &[u8],
 ) -> Result<Record, CallFault>
-    requires opens { Opens block.bytes.now (head_value opened.now.head) (digest_value opened.now.digest) }
-    requires place { block.at + length block.bytes.now < 2 ^ 64 }
-    ensures value { (b : BlockValue) → block_in block.entry.bytes.now ≡ Passed b → ballot_answer (digest_value opened.now.digest) result ≡ considered (members_value members.now) A.Application.meaning (scheme S.Seals.width (S.Seals.holds seals.now)) (B.Books.meaning books.now) b seal.now }
+    ensures value { (b : BlockValue) → block_in opened.now.block.bytes.now ≡ Passed b → ballot_answer (digest_value opened.now.digest) result ≡ considered (members_value members.now) A.Application.meaning (scheme S.Seals.width (S.Seals.holds seals.now)) (B.Books.meaning books.now) b seal.now }
     ensures there { FoundAt (B.Books.meaning books.now).rows (identifier_value opened.now.head.chain) result }
 {
     let row = owned_record(books, &opened.head.chain)?;
@@ -101,7 +97,7 @@ fn consider<A: Application, B: Books, S: Seals>(
     if !may_vote(row.vote, &opened.digest) {
         return Err(CallFault::Voted);
     }
-    let draft = run_block::<A, B>(books, members, block, &opened.head, &row)?;
+    let draft = run_block::<A, B>(books, members, opened, &row)?;
     if is_owing(books, &opened.head.chain, &draft) {
         return Err(CallFault::MinusMarks);
     }
@@ -113,16 +109,13 @@ fn vote<A: Application, B: Books, S: Seals>(
     books: &mut B,
     seals: &S,
     members: &[Member],
-    block: Part,
     opened: &Opened,
     seal: &[u8],
 ) -> Result<Digest, CallFault>
-    requires opens { Opens block.bytes.now (head_value opened.now.head) (digest_value opened.now.digest) }
-    requires place { block.at + length block.bytes.now < 2 ^ 64 }
-    ensures change { (b : BlockValue) → block_in block.entry.bytes.now ≡ Passed b → Ends (considered (members_value members.now) A.Application.meaning (scheme S.Seals.width (S.Seals.holds seals.now)) (B.Books.meaning books.old) b seal.now) (B.Books.meaning books.old) (call_answer result) (B.Books.meaning books.new) }
+    ensures change { (b : BlockValue) → block_in opened.now.block.bytes.now ≡ Passed b → Ends (considered (members_value members.now) A.Application.meaning (scheme S.Seals.width (S.Seals.holds seals.now)) (B.Books.meaning books.old) b seal.now) (B.Books.meaning books.old) (call_answer result) (B.Books.meaning books.new) }
     ensures rest { B.Books.outside books.new ≡ B.Books.outside books.old }
 {
-    let row = consider::<A, B, S>(books, seals, members, block, opened, seal)?;
+    let row = consider::<A, B, S>(books, seals, members, opened, seal)?;
     let mut voted = row;
     voted.vote = Some(opened.digest);
     let _ = books.put_record(voted);
@@ -141,14 +134,7 @@ fn propose_request<A: Application, B: Books, S: Seals>(
     ensures rest { B.Books.outside books.new ≡ B.Books.outside books.old }
 {
     let opened = open_block(request.block)?;
-    vote::<A, B, S>(
-        books,
-        seals,
-        members,
-        request.block,
-        &opened,
-        request.seal.bytes,
-    )
+    vote::<A, B, S>(books, seals, members, &opened, request.seal.bytes)
 }
 
 /// Runs the block of a request on a copy and, where it is accepted, sets this member's vote. Nothing else changes. It answers

@@ -1,5 +1,5 @@
 //! Running the commands of a block.
-ghost use Rattle.std.specs.Prelude.{◌≡◌, ◌+◌, ◌^◌, ◌<◌, ◌≤◌, true, length, is_some, option_to_list, Some};
+ghost use Rattle.std.specs.Prelude.{◌≡◌, ◌+◌, ◌<◌, ◌≤◌, true, is_some, option_to_list, Some};
 ghost use Rattle.std.specs.Option.{option_map};
 ghost use Rattle.applications.specs.Meaning.{sent_value};
 ghost use Rattle.applications.specs.Steps.{Gives};
@@ -7,10 +7,8 @@ ghost use Rattle.format.specs.Layout.{max_commands, max_index};
 ghost use Rattle.format.specs.Meaning.{command_value, identifier_value};
 ghost use Rattle.format.specs.Values.{CommandValue};
 ghost use Rattle.format.specs.Outcomes.{Passed};
-ghost use Rattle.reading.specs.Blocks.{block_head_in};
 ghost use Rattle.reading.specs.Cursors.{cursor_value};
 ghost use Rattle.reading.specs.Commands.{operands_in};
-ghost use Rattle.reading.specs.Parts.{head_value};
 ghost use Rattle.books.specs.Meaning.{entry_value, record_value};
 ghost use Rattle.blocks.specs.Drafts.{Within, draft_value, ran_value, state_value};
 ghost use Rattle.blocks.specs.Running.{Yields, block_finished, byte_of, command_ran, command_stepped, index_of, key_of, opening_entries, opens_child, ran_answer, run_answer, step_answer, step_draft};
@@ -18,6 +16,7 @@ ghost use Rattle.committee.specs.Meaning.{members_value};
 ghost use Rattle.protocol.specs.Execution.{child_allowed, stepped};
 
 use crate::draft::{Draft, Ran, State};
+use crate::opening::Opened;
 use applications::{Application, Step};
 use books::{Books, Load, Outgoing, Record};
 use committee::Member;
@@ -25,7 +24,7 @@ use faults::{AtCommand, CommandFault};
 use format::layout::{MAX_DEPTH, MAX_INDEX};
 use format::{Command, Height, Identifier, Key, Name, layout};
 use protocol::is_owner_key;
-use reading::{CommandPart, Cursor, Head, Part};
+use reading::{CommandPart, Cursor};
 
 // Whether this is the child that the chain's block at this height opens.
 fn is_child(chain: &Identifier, height: Height, child: &Identifier) -> bool
@@ -223,16 +222,14 @@ fn next_part<'a>(cursor: &mut Cursor<'a>) -> Option<CommandPart<'a>>
 pub(crate) fn run_block<A: Application, B: Books>(
     books: &B,
     members: &[Member],
-    block: Part,
-    head: &Head,
+    opened: &Opened,
     row: &Record,
 ) -> Result<Draft, AtCommand>
-    requires read { Passed (head_value head.now) ≡ block_head_in block.bytes.now }
-    requires place { block.at + length block.bytes.now < 2 ^ 64 }
-    ensures { run_answer result ≡ block_finished (members_value members.now) A.Application.meaning (B.Books.meaning books.now).rows.marked (record_value row.now).chain block.entry.bytes.now }
+    ensures { run_answer result ≡ block_finished (members_value members.now) A.Application.meaning (B.Books.meaning books.now).rows.marked (record_value row.now).chain opened.now.block.bytes.now }
 {
+    let head = &opened.head;
     let mut draft = Draft::new(row);
-    let mut cursor = Cursor::new(block, head.count);
+    let mut cursor = Cursor::new(opened.block, head.count);
     for index in 0..head.count {
         let Some(part) = next_part(&mut cursor) else {
             return Ok(draft);

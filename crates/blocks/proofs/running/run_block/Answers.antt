@@ -17,11 +17,11 @@ loop-index-init g c =
     let C = members_value c.args.members.now in
     let A = g.A.Application.meaning in
     let M = (g.B.Books.meaning c.args.books.now).rows.marked in
-    let bs = c.args.block.bytes.now in
-    let h = head_value c.args.head.now in
-    let e = read_block bs h c.requires.read in
+    let bs = c.args.opened.now.block.bytes.now in
+    let h = head_value c.args.opened.now.head in
+    let e = read_block bs h c.args.opened.now.read in
     let v = cursor_value c.new-cursor.result in
-    let at : v ≡ record { rest = _; at = _; place = 0; left = h.count } = c.new-cursor.ensures ∙ begins c.args.block.at bs h.count e.long c.requires.place in
+    let at : v ≡ record { rest = _; at = _; place = 0; left = h.count } = c.new-cursor.ensures ∙ begins c.args.opened.now.block.at bs h.count e.long c.args.opened.now.place in
     let left : v.left ≡ h.count = ap (λ (z : CursorValue). z.left) at in
     let few : h.count ≤ max_commands = e.few in (
       (
@@ -55,7 +55,7 @@ returns-in-Err g c =
     let d = draft_value c.run_part.new.draft in
     let inv = c.loop-index.invariant in
     ap (λ z. Refused (command_refusal z c.in-Err.fault)) c.from.ensures
-    ∙ run_refused C A M (record_value c.args.row.now).chain c.args.block.bytes.now (head_value c.args.head.now) k (draft_value c.loop-index.draft)
+    ∙ run_refused C A M (record_value c.args.row.now).chain c.args.opened.now.block.bytes.now (head_value c.args.opened.now.head) k (draft_value c.loop-index.draft)
     (cursor_value c.loop-index.cursor) (cursor_value c.next_part.new.cursor) c.in-Some.part inv.0.0 c.in-Some.ensures inv.0.1 inv.0.2
     (step_answer k c.run_part.result d) c.run_part.ensures.value (command_refusal k c.in-Err.fault) (ap (λ r. step_answer k r d) c.in-Err.is)
 
@@ -73,7 +73,7 @@ loop-index-preserved g c =
     let more : 0 < v.left = moved.more in
     let next_left : w.left ≡ v.left - 1 = ap (λ (z : CursorValue). z.left) moved.on in
     let left : k + v.left ≡ _ = inv.2 in (
-      run_goes_on C A M (record_value c.args.row.now).chain c.args.block.bytes.now (head_value c.args.head.now) k (draft_value c.loop-index.draft)
+      run_goes_on C A M (record_value c.args.row.now).chain c.args.opened.now.block.bytes.now (head_value c.args.opened.now.head) k (draft_value c.loop-index.draft)
           v w c.in-Some.part inv.0.0 moved inv.0.1 inv.0.2 (step_answer k c.run_part.result d) c.run_part.ensures.value d
           (ap (λ r. step_answer k r d) c.in_default-run_part.is),
       c.run_part.ensures.within,
@@ -86,7 +86,7 @@ pub returns-in_default : goal.returns-in_default
 returns-in_default g c =
     let inv = c.loop-index.invariant in
     run_whole (members_value c.args.members.now) g.A.Application.meaning (g.B.Books.meaning c.args.books.now).rows.marked (record_value c.args.row.now).chain
-    c.args.block.bytes.now (head_value c.args.head.now) c.loop-index.index (draft_value c.loop-index.draft) inv.0.0 (c.in_default.ensures inv.0.0 inv.0.1) inv.0.2
+    c.args.opened.now.block.bytes.now (head_value c.args.opened.now.head) c.loop-index.index (draft_value c.loop-index.draft) inv.0.0 (c.in_default.ensures inv.0.0 inv.0.1) inv.0.2
 
 pub returns : goal.returns
 returns g c =
@@ -94,4 +94,4 @@ returns g c =
     let inv = c.loop-index.invariant in
     let none : v.left ≡ 0 = omega (arith, inv.2) in
     run_whole (members_value c.args.members.now) g.A.Application.meaning (g.B.Books.meaning c.args.books.now).rows.marked (record_value c.args.row.now).chain
-    c.args.block.bytes.now (head_value c.args.head.now) c.loop-index.index (draft_value c.loop-index.draft) inv.0.0 (none_left v.left v.place v.rest inv.0.0 none inv.0.1) inv.0.2
+    c.args.opened.now.block.bytes.now (head_value c.args.opened.now.head) c.loop-index.index (draft_value c.loop-index.draft) inv.0.0 (none_left v.left v.place v.rest inv.0.0 none inv.0.1) inv.0.2

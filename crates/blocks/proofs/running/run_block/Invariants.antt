@@ -19,5 +19,5 @@ invariant-loop-index g l =
     let M = (g.B.Books.meaning l.books).rows.marked in
     let v = cursor_value l.cursor in
     ((cs : List CommandValue) × (commands_in v.left v.place v.rest ≡ Passed cs)
-    × (block_finished C A M (record_value l.row).chain l.block.bytes.now ≡ run_on C A M (identifier_value l.head.chain) l.head.height.0 l.index (draft_value l.draft) cs))
+    × (block_finished C A M (record_value l.row).chain l.opened.block.bytes.now ≡ run_on C A M (identifier_value l.opened.head.chain) l.opened.head.height.0 l.index (draft_value l.draft) cs))
     × Within l.draft l.index × (l.index + v.left ≡ l.index-end) × (l.index-end ≤ max_commands)
