@@ -1,6 +1,7 @@
 -- A block that was read, and its run over the cursor.
-use Rattle.std.proofs.Common.{◌≡◌, ℕ, zero, suc, ◌+◌, ◌-◌, ◌^◌, ◌<◌, ◌≤◌, Bool, true, false, ◌&&◌, eqb, leb, List, [], ◌∷◌, length, take, drop, Some, Err, sym, refl, ap, ◌∙◌, subst, arith}
-use Rattle.std.specs.Option.{option_map}
+use Rattle.std.proofs.Common.{◌≡◌, ℕ, zero, suc, ◌+◌, ◌-◌, ◌^◌, ◌<◌, ◌≤◌, Bool, true, false, ◌&&◌, eqb, leb, List, [], ◌∷◌, length, take, drop, Some, None, Ok, Err, Option, Result, sym, refl, ap, ◌∙◌, subst, arith}
+use Rattle.std.specs.Option.{option_map, option_flatten}
+use Rattle.std.specs.Result.{result_ok}
 use Rattle.std.proofs.lemmas.Bool.{and_parts, and_from, cond-true, le-leb, lt-ltb}
 use Rattle.format.specs.Layout.{identifier_len, head_len, max_commands, command_byte_len}
 use Rattle.format.specs.Rules.{head_allowed}
@@ -22,7 +23,7 @@ use Rattle.books.specs.Values.{ChainValue}
 use Rattle.applications.specs.Steps.{ApplicationValue}
 use Rattle.protocol.proofs.Outcomes.{refused_passed, passed_is, bind_passed, given_passed, none_some}
 use Rattle.blocks.specs.Drafts.{DraftValue, beginning}
-use Rattle.blocks.specs.Running.{Marks, step_draft, Finished, run_on, finished, block_finished, finished_value}
+use Rattle.blocks.specs.Running.{Marks, step_draft, Finished, run_on, finished, block_finished, finished_value, Yields}
 use Rattle.blocks.proofs.Runs.{run_step, run_ends}
 
 -- the commands of a block that was read
@@ -87,6 +88,12 @@ no_fault v w Block m cs e = none_left v.left v.place v.rest cs m.0 e
 no_fault v w (Command k) m cs e =
     let s = next_command v.left v.place v.rest cs m.0 e in
     absurd (none_some (sym m.2 ∙ s.2))
+
+-- the next command, where a refusal is taken for the end
+pub yields : (v w : CursorValue) (r : Result (Option CommandPart) ReadFault) → Moved v w r → Yields v w (option_flatten (result_ok r))
+yields v w (Ok (Some p)) m = m
+yields v w (Ok None) m = λ cs e. none_left v.left v.place v.rest cs m.0 e
+yields v w (Err f) m = no_fault v w f m
 
 -- the cursor at the first command
 pub begins : (at : ℕ) (bs : List ℕ) (n : ℕ) → head_len ≤ length bs → at + length bs < 2 ^ 64 → begun at bs n ≡ record { rest = drop head_len bs; at = at + head_len; place = 0; left = n }

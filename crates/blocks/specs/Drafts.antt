@@ -15,10 +15,6 @@ use Rattle.blocks.specs.declared.draft.State.{State}
 use Rattle.blocks.specs.declared.draft.Ran.{Ran as RanCommand}
 use Rattle.blocks.specs.declared.draft.Draft.{Draft}
 
-abbrev pub marks_operation : Bool → MarkValue → Operation
-marks_operation true k = put_mark k
-marks_operation false k = remove_mark k
-
 abbrev pub change_value : Change → Operation
 change_value (Put mark) = put_mark (mark_value mark)
 change_value (Removed mark) = remove_mark (mark_value mark)

@@ -33,15 +33,10 @@ pub(crate) fn owned_record<B: Books>(books: &B, chain: &Identifier) -> Result<Re
     ensures value { chain_answer result ≡ owned (chain_in ((B.Books.meaning books.now).rows.record_at (identifier_value chain.now))) }
     ensures there { FoundAt (B.Books.meaning books.now).rows (identifier_value chain.now) result }
 {
-    match books.record(chain) {
-        Some(row) => {
-            if row.owner.0 == 0 {
-                return Err(CallFault::NoOwner);
-            }
-            Ok(row)
-        }
-        None => Err(CallFault::NoOwner),
-    }
+    books
+        .record(chain)
+        .filter(|row| row.owner.0 != 0)
+        .ok_or(CallFault::NoOwner)
 }
 
 // Whether a block with this head stands at the next height of its chain, on the last digest.
@@ -64,10 +59,7 @@ pub(crate) fn check_turn(row: &Record, head: &Head) -> Result<(), CallFault>
 fn may_vote(vote: Option<Digest>, digest: &Digest) -> bool
     ensures { result ≡ votes_at_most (digest_value digest.now) (option_map digest_value vote) }
 {
-    match vote {
-        Some(voted) => voted == *digest,
-        None => true,
-    }
+    vote.is_none_or(|voted| voted == *digest)
 }
 
 // Whether minus marks of the chain remain after the block.
@@ -116,9 +108,10 @@ fn vote<A: Application, B: Books, S: Seals>(
     ensures rest { B.Books.outside books.new ≡ B.Books.outside books.old }
 {
     let row = consider::<A, B, S>(books, seals, members, opened, seal)?;
-    let mut voted = row;
-    voted.vote = Some(opened.digest);
-    let _ = books.put_record(voted);
+    let _ = books.put_record(Record {
+        vote: Some(opened.digest),
+        ..row
+    });
     Ok(opened.digest)
 }
 

@@ -31,18 +31,11 @@ fn is_child(chain: &Identifier, height: Height, child: &Identifier) -> bool
     ensures { result ≡ child_allowed (identifier_value chain.now) height.0 (identifier_value child.now) }
 {
     let parent = chain.numbers();
-    let numbers = child.numbers();
-    let depth = parent.len();
-    if depth >= MAX_DEPTH {
-        return false;
-    }
-    if numbers.len() != depth + 1 {
-        return false;
-    }
-    if numbers[depth] != height.0 {
-        return false;
-    }
-    &numbers[..depth] == parent
+    parent.len() < MAX_DEPTH
+        && child
+            .numbers()
+            .strip_prefix(parent)
+            .is_some_and(|rest| rest == [height.0].as_slice())
 }
 
 // The chain after a step, whose message goes to the target under this name.
@@ -212,10 +205,7 @@ fn run_part<A: Application, B: Books>(
 fn next_part<'a>(cursor: &mut Cursor<'a>) -> Option<CommandPart<'a>>
     ensures { Yields (cursor_value cursor.old) (cursor_value cursor.new) result }
 {
-    match cursor.next() {
-        Ok(part) => part,
-        Err(_) => None,
-    }
+    cursor.next().ok().flatten()
 }
 
 // Runs the commands of a block that was read, on its chain's record. The books are not changed.
