@@ -10,7 +10,8 @@ use Rattle.books.specs.Values.{ChainValue, RecordValue, plus, MarkValue, marking
 use Rattle.books.specs.Books.{Rows, BooksValue, put_record, updated, apply, apply_all}
 use Rattle.books.specs.declared.side.Side.TheVariants.{All}
 use Rattle.books.proofs.Changes.{changed_rows}
-use Rattle.protocol.specs.Reads.{SealsValue, ApplicationValue}
+use Rattle.applications.specs.Steps.{ApplicationValue}
+use Rattle.protocol.specs.Reads.{SealsValue}
 use Rattle.protocol.specs.Calls.{Done, Ends, fresh, new_record, root_of, root_records, propose, upload, deliver, start}
 use Rattle.agreement.specs.Ledger.{Chains, root_chains}
 use Rattle.agreement.specs.Runs.{Setting, Grounds, Call, Propose, Upload, Deliver, Event, outcome, books, block_of_certificate, Earned, Run, DigestsDiffer, noted, accepted}

@@ -11,7 +11,8 @@ use Rattle.books.specs.Values.{ChainValue, RecordValue, OutgoingValue}
 use Rattle.books.specs.Lists.{any}
 use Rattle.books.specs.Books.{Rows, BooksValue, Operation, put_record, remove_outgoing, puts, apply, apply_all, needed}
 use Rattle.books.specs.declared.side.Side.TheVariants.{All}
-use Rattle.protocol.specs.Reads.{SealsValue, ApplicationValue, RequestRead, CertificateRead, block_digest, read_request, read_certificate}
+use Rattle.applications.specs.Steps.{ApplicationValue}
+use Rattle.protocol.specs.Reads.{SealsValue, RequestRead, CertificateRead, block_digest, read_request, read_certificate}
 use Rattle.protocol.specs.Execution.{Ran, executed, advanced}
 use Rattle.protocol.specs.Calls.{Done, owned, in_turn, chain_in, with_vote, block_receipts, vote_in, votes_at_most, minus_remains, votes_weight, certified, block_operations, arrival, roots_allowed, roots_fit, root_records, propose, upload, deliver, start}
 use Rattle.agreement.proofs.Basics.{refused_passed, passed_is, bind_passed, then_passed, check_holds, check_passed, given_passed, true_false}

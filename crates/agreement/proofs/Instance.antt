@@ -5,13 +5,13 @@ use Rattle.format.specs.Values.{IdentifierValue, DigestValue, BlockValue}
 use Rattle.format.specs.Rules.{zero_digest, head_allowed}
 use Rattle.format.specs.Outcomes.{Outcome, Passed}
 use Rattle.committee.specs.Rules.{CommitteeValue}
-use Rattle.applications.specs.Steps.{Refuses}
+use Rattle.applications.specs.Steps.{Refuses, ApplicationValue}
 use Rattle.books.specs.Values.{RecordValue}
 use Rattle.books.specs.Books.{Rows, BooksValue, Laws, put_record, apply, present, Changed}
 use Rattle.reading.specs.Frames.{VoteValue, request_in, certificate_in}
 use Rattle.reading.specs.Fields.{identifier_in}
 use Rattle.reading.specs.Blocks.{head_in, block_in}
-use Rattle.protocol.specs.Reads.{ApplicationValue, SealsValue, CertificateRead, block_digest, read_request, read_certificate}
+use Rattle.protocol.specs.Reads.{SealsValue, CertificateRead, block_digest, read_request, read_certificate}
 use Rattle.protocol.specs.Calls.{Done, Ends, with_vote, fresh, new_record, root_of, propose, upload, start}
 use Rattle.agreement.specs.Lists.{In}
 use Rattle.agreement.specs.Blocks.{block_discrete}

@@ -6,9 +6,8 @@ use Rattle.format.specs.Same.{same_identifier}
 use Rattle.format.proofs.Same.{identifier_decides}
 use Rattle.format.specs.Outcomes.{refusal_at, Passed}
 use Rattle.committee.specs.Rules.{CommitteeValue}
-use Rattle.applications.specs.Steps.{SentValue, StepValue, Refuses, Gives}
+use Rattle.applications.specs.Steps.{SentValue, StepValue, Refuses, Gives, ApplicationValue}
 use Rattle.books.specs.Values.{LoadValue, opening, sent, EntryValue}
-use Rattle.protocol.specs.Reads.{ApplicationValue}
 use Rattle.protocol.specs.Execution.{key_allowed, child_of, child_allowed, RunState, Ran, entry, message_entries, stepped, run_command, is_close, is_open, run_commands}
 use Rattle.agreement.specs.Lists.{In}
 use Rattle.agreement.proofs.Basics.{refused_passed, passed_is, bind_passed, check_passed, true_false, in_either}

@@ -6,7 +6,8 @@ use Rattle.format.specs.Outcomes.{Outcome, Refused, Passed, ◌>>=◌, ◌>>◌}
 use Rattle.committee.specs.Rules.{CommitteeValue}
 use Rattle.books.specs.Values.{ChainValue, LoadValue, opening, sent, EntryValue}
 use Rattle.books.specs.Books.{updated}
-use Rattle.protocol.specs.Reads.{ApplicationValue, block_digest}
+use Rattle.applications.specs.Steps.{ApplicationValue}
+use Rattle.protocol.specs.Reads.{block_digest}
 use Rattle.protocol.specs.Execution.{Ran, executed, advanced, received}
 use Rattle.protocol.specs.Calls.{owned, in_turn, fresh, message_of, root_of}
 

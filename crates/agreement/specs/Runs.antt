@@ -7,7 +7,8 @@ use Rattle.committee.specs.Rules.{MemberValue, CommitteeValue}
 use Rattle.committee.specs.Weights.{faulty_weight}
 use Rattle.reading.specs.Frames.{VoteValue}
 use Rattle.books.specs.Books.{BooksValue, Laws}
-use Rattle.protocol.specs.Reads.{SealsValue, ApplicationValue, RequestRead, CertificateRead, block_digest, read_request, read_certificate}
+use Rattle.applications.specs.Steps.{ApplicationValue}
+use Rattle.protocol.specs.Reads.{SealsValue, RequestRead, CertificateRead, block_digest, read_request, read_certificate}
 use Rattle.protocol.specs.Calls.{Done, Ends, member_at, propose, upload, deliver, start}
 use Rattle.agreement.specs.Lists.{In}
 use Rattle.agreement.specs.Blocks.{block_discrete}

@@ -4,9 +4,9 @@ use lib.Signed.{lt_z}
 use Rattle.std.proofs.lemmas.List.{at_drop_more, at_drop_all}
 use Rattle.std.proofs.lemmas.Int.{ints}
 use Rattle.std.proofs.lemmas.Bool.Decides.{nat_tests}
-use Rattle.applications.specs.Steps.{SentValue, StepValue, StepRule, Refuses, Gives, refuse_unless}
-use Rattle.applications.specs.Ring.{offset_allowed, counts_allowed, counted, with_left, ring_operation, ring_message, record_and_send, record_only, recorded}
-use Rattle.applications.specs.Stock.{cast, send_off, place_order, delivery, order, lot_allowed, stock_allowed, kept, said, taking, without_taking, stock_operation, stock_message}
+use Rattle.applications.specs.Steps.{SentValue, StepValue, ApplicationValue, Refuses, Gives, refuse_unless}
+use Rattle.applications.specs.Ring.{offset_allowed, counts_allowed, counted, with_left, ring_register, record_and_send, record_only, recorded}
+use Rattle.applications.specs.Stock.{cast, send_off, place_order, delivery, order, lot_allowed, stock_allowed, kept, said, taking, without_taking, segment_stock}
 use Rattle.applications.specs.Meaning.{asked_value}
 use Rattle.applications.specs.declared.running.Asked.{Asked}
 use Rattle.applications.specs.Tallies.{AskedStep, by_operation, by_message, TallyValue, made, onward, tally_from, offset_of, left_of_axis, RingsAreCounted, added, taken, arrived, total, StockBalances}
@@ -40,7 +40,7 @@ module _ (next : ℤ → ℤ → TallyValue) (place : ℕ) (a b x y : ℤ) where
       let step = Gives (a +ℤ pos 1) (with_left b v) sent in
       unless (offset_allowed v) 2 (refuse_unless (counts_allowed a b) 3 step) (unless (counts_allowed a b) 3 step h)
 
-  ring_step : (s : AskedStep) → Ends x y (next (a +ℤ pos 1) (with_left b (offset_of s))) → Ends x y (after (made ring_operation ring_message a b s))
+  ring_step : (s : AskedStep) → Ends x y (next (a +ℤ pos 1) (with_left b (offset_of s))) → Ends x y (after (made ring_register a b s))
   ring_step (by_operation code v) h =
       let sends = Some (record { code = recorded; value = v }) in
       choose (eqb code record_and_send) (counted a b v sends) (cond (eqb code record_only) (counted a b v None) (Refuses 1)) (λ _. ring_counted v sends h)
@@ -64,7 +64,7 @@ module _ (next : ℤ → ℤ → TallyValue) (place : ℕ) (a b x y : ℤ) where
   moved : (d e a' b' : ℤ) → a +ℤ d ≡ a' → b +ℤ e ≡ b' → Ends x y (next (a +ℤ d) (b +ℤ e)) → Ends x y (next a' b')
   moved d e a' b' p q h = subst (λ z. Ends x y (next z b')) p (subst (λ z. Ends x y (next (a +ℤ d) z)) q h)
 
-  stock_step : (s : AskedStep) → Ends x y (next (a +ℤ (added s -ℤ taken s)) (b +ℤ arrived s)) → Ends x y (after (made stock_operation stock_message a b s))
+  stock_step : (s : AskedStep) → Ends x y (next (a +ℤ (added s -ℤ taken s)) (b +ℤ arrived s)) → Ends x y (after (made segment_stock a b s))
   stock_step (by_operation code n) h =
       choose (eqb code cast) (without_taking a b n (a +ℤ n) b None) _
       (λ t. let f : eqb code send_off ≡ false = grind (arith, nat_tests) in stock_kept n (a +ℤ n) b None (moved _ _ _ _ (rw (t, f) (omega (arith, ints))) (omega (arith, ints)) h))
@@ -87,10 +87,10 @@ left_more b v n = one (lt_z v (pos 0))
     one false = omega (arith, ints)
 
 ring_from : (ss : List AskedStep) (place : ℕ) (a b : ℤ)
-    → Ends (a +ℤ pos (length ss)) (b +ℤ pos (left_of_axis ss)) (tally_from ring_operation ring_message ss place a b)
+    → Ends (a +ℤ pos (length ss)) (b +ℤ pos (left_of_axis ss)) (tally_from ring_register ss place a b)
 ring_from [] place a b = λ p. (omega (arith, ints), omega (arith, ints))
 ring_from (s ∷ ss) place a b =
-    ring_step (tally_from ring_operation ring_message ss (place + 1)) place a b _ _ s
+    ring_step (tally_from ring_register ss (place + 1)) place a b _ _ s
     (same_ends ((a +ℤ pos 1) +ℤ pos (length ss)) (with_left b (offset_of s) +ℤ pos (left_of_axis ss)) _ _ _
     (omega (arith, ints)) (left_more b (offset_of s) (left_of_axis ss))
     (ring_from ss (place + 1) (a +ℤ pos 1) (with_left b (offset_of s))))
@@ -100,10 +100,10 @@ rings_are_counted ss = same_ends (pos 0 +ℤ pos (length ss)) (pos 0 +ℤ pos (l
 
 -- ---- the segment stock
 stock_from : (ss : List AskedStep) (place : ℕ) (a b : ℤ)
-    → Ends (a +ℤ (total added ss -ℤ total taken ss)) (b +ℤ total arrived ss) (tally_from stock_operation stock_message ss place a b)
+    → Ends (a +ℤ (total added ss -ℤ total taken ss)) (b +ℤ total arrived ss) (tally_from segment_stock ss place a b)
 stock_from [] place a b = λ p. (omega (arith, ints), omega (arith, ints))
 stock_from (s ∷ ss) place a b =
-    stock_step (tally_from stock_operation stock_message ss (place + 1)) place a b _ _ s
+    stock_step (tally_from segment_stock ss (place + 1)) place a b _ _ s
     (same_ends ((a +ℤ (added s -ℤ taken s)) +ℤ (total added ss -ℤ total taken ss)) ((b +ℤ arrived s) +ℤ total arrived ss) _ _ _
     (omega (arith, ints)) (omega (arith, ints))
     (stock_from ss (place + 1) (a +ℤ (added s -ℤ taken s)) (b +ℤ arrived s)))
@@ -114,20 +114,20 @@ stock_balances ss =
     (stock_from ss 0 (pos 0) (pos 0))
 
 -- ---- a loop over the steps: those that are left, from a place on, make the tally whole
-module _ (operation message : StepRule) (steps : List Asked) (place : ℕ) (a b : ℤ) (whole : TallyValue)
-    (so_far : tally_from operation message (map asked_value (drop place steps)) place a b ≡ whole) where
+module _ (A : ApplicationValue) (steps : List Asked) (place : ℕ) (a b : ℤ) (whole : TallyValue)
+    (so_far : tally_from A (map asked_value (drop place steps)) place a b ≡ whole) where
   abbrev left_over : ℤ → ℤ → TallyValue
-  left_over = tally_from operation message (map asked_value (drop (place + 1) steps)) (place + 1)
+  left_over = tally_from A (map asked_value (drop (place + 1) steps)) (place + 1)
 
-  here : (d : Asked) → place < length steps → onward left_over place a b (made operation message a b (asked_value (get_or steps place d))) ≡ whole
-  here d h = sym (at_drop_more (λ l. tally_from operation message (map asked_value l) place a b) steps place d h) ∙ so_far
+  here : (d : Asked) → place < length steps → onward left_over place a b (made A a b (asked_value (get_or steps place d))) ≡ whole
+  here d h = sym (at_drop_more (λ l. tally_from A (map asked_value l) place a b) steps place d h) ∙ so_far
 
-  pub one_refused : (d : Asked) (n : ℕ) → place < length steps → Refuses n ≡ made operation message a b (asked_value (get_or steps place d)) → onward left_over place a b (Refuses n) ≡ whole
+  pub one_refused : (d : Asked) (n : ℕ) → place < length steps → Refuses n ≡ made A a b (asked_value (get_or steps place d)) → onward left_over place a b (Refuses n) ≡ whole
   one_refused d n h e = ap (onward left_over place a b) e ∙ here d h
 
   pub one_made : (d : Asked) (a' b' : ℤ) (sent : Option SentValue) → place < length steps
-      → Gives a' b' sent ≡ made operation message a b (asked_value (get_or steps place d)) → left_over a' b' ≡ whole
+      → Gives a' b' sent ≡ made A a b (asked_value (get_or steps place d)) → left_over a' b' ≡ whole
   one_made d a' b' sent h e = ap (onward left_over place a b) e ∙ here d h
 
   pub all_made : length steps ≤ place → record { a = a; b = b; stop = None } ≡ whole
-  all_made h = sym (at_drop_all (λ l. tally_from operation message (map asked_value l) place a b) steps place h) ∙ so_far
+  all_made h = sym (at_drop_all (λ l. tally_from A (map asked_value l) place a b) steps place h) ∙ so_far

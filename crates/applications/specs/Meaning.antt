@@ -1,6 +1,6 @@
 -- What the code's types stand for.
 use Rattle.std.specs.Option.{option_map}
-use Rattle.std.specs.Prelude.{Ok, Err, Result}
+use Rattle.std.specs.Prelude.{ℕ, Ok, Err, Result}
 use Rattle.applications.specs.Steps.{SentValue, StepValue, Refuses, Gives}
 use Rattle.applications.specs.declared.application.ApplicationFault.{ApplicationFault}
 use Rattle.applications.specs.declared.application.Sent.{Sent}
@@ -14,9 +14,13 @@ use Rattle.applications.specs.Tallies.{AskedStep, by_operation, by_message, Stop
 abbrev pub sent_value : Sent → SentValue
 sent_value s = record { code = s.code; value = s.value }
 
+-- a step whose fault has this number
+abbrev pub rule_value : {E : Type 0} → (E → ℕ) → Result Step E → StepValue
+rule_value number (Ok s) = Gives s.a s.b (option_map sent_value s.sent)
+rule_value number (Err f) = Refuses (number f)
+
 abbrev pub step_value : Result Step ApplicationFault → StepValue
-step_value (Ok s) = Gives s.a s.b (option_map sent_value s.sent)
-step_value (Err f) = Refuses f.number
+step_value r = rule_value (λ f. f.number) r
 
 abbrev pub asked_value : Asked → AskedStep
 asked_value (Operation code value) = by_operation code value

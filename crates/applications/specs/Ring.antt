@@ -1,6 +1,6 @@
 -- The ring register: a counts rings, b those left of the axis.
 use Rattle.std.specs.Prelude.{ℕ, Bool, cond, ◌&&◌, ℤ, pos, negsuc, ◌+ℤ◌, Some, None, Option, ◌==◌, int_le, int_lt}
-use Rattle.applications.specs.Steps.{SentValue, StepValue, Refuses, Gives, StepRule, refuse_unless}
+use Rattle.applications.specs.Steps.{SentValue, StepValue, Refuses, Gives, StepRule, ApplicationValue, refuse_unless}
 
 -- the largest offset to either side in millimetres, and the count that is not passed
 abbrev pub max_offset : ℤ
@@ -47,3 +47,6 @@ ring_operation a b code v =
 
 abbrev pub ring_message : StepRule
 ring_message a b code v = cond (code == recorded) (counted a b v None) (Refuses 1)
+
+abbrev pub ring_register : ApplicationValue
+ring_register = record { start_a = pos 0; start_b = pos 0; operation = ring_operation; message = ring_message }

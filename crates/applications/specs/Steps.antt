@@ -15,6 +15,14 @@ pub data StepValue : Type 0 where
 abbrev pub StepRule : Type 0
 StepRule = ℤ → ℤ → ℕ → ℤ → StepValue
 
+-- an application: the numbers of a new chain, a step by an operation of the chain's own block, and one by a message that the
+-- chain receives
+pub record ApplicationValue : Type 0 where
+  pub start_a : ℤ
+  pub start_b : ℤ
+  pub operation : StepRule
+  pub message : StepRule
+
 -- a check of an application
 abbrev pub refuse_unless : Bool → ℕ → StepValue → StepValue
 refuse_unless true n s = s

@@ -1,6 +1,6 @@
 -- The segment stock: a is what a chain has, b what arrived by messages.
 use Rattle.std.specs.Prelude.{ℕ, Bool, cond, not, ◌&&◌, ℤ, pos, ◌+ℤ◌, ◌-ℤ◌, Some, None, Option, ◌==◌, int_le, int_lt}
-use Rattle.applications.specs.Steps.{SentValue, StepValue, Refuses, Gives, StepRule, refuse_unless}
+use Rattle.applications.specs.Steps.{SentValue, StepValue, Refuses, Gives, StepRule, ApplicationValue, refuse_unless}
 
 -- the most segments of one operation or message, and of a stock
 abbrev pub max_lot : ℤ
@@ -60,3 +60,6 @@ abbrev pub stock_message : StepRule
 stock_message a b code n =
     cond (code == delivery) (without_taking a b n (a +ℤ n) (b +ℤ n) None)
     (cond (code == order) (taking a b n) (Refuses 1))
+
+abbrev pub segment_stock : ApplicationValue
+segment_stock = record { start_a = pos 0; start_b = pos 0; operation = stock_operation; message = stock_message }

@@ -1,8 +1,8 @@
 -- Steps in a row, and what the numbers then count.
 use Rattle.std.specs.Prelude.{◌≡◌, ℕ, ◌+◌, cond, List, [], ◌∷◌, length, ℤ, pos, ◌+ℤ◌, ◌-ℤ◌, Some, None, Option, ◌==◌, int_lt}
-use Rattle.applications.specs.Steps.{StepValue, Refuses, Gives, StepRule}
-use Rattle.applications.specs.Ring.{ring_operation, ring_message}
-use Rattle.applications.specs.Stock.{cast, send_off, delivery, order, stock_operation, stock_message}
+use Rattle.applications.specs.Steps.{StepValue, Refuses, Gives, ApplicationValue}
+use Rattle.applications.specs.Ring.{ring_register}
+use Rattle.applications.specs.Stock.{cast, send_off, delivery, order, segment_stock}
 
 -- a step that is asked for, with its code and value
 pub data AskedStep : Type 0 where
@@ -20,9 +20,9 @@ pub record TallyValue : Type 0 where
   pub b : ℤ
   pub stop : Option StopValue
 
-abbrev pub made : StepRule → StepRule → ℤ → ℤ → AskedStep → StepValue
-made operation message a b (by_operation code value) = operation a b code value
-made operation message a b (by_message code value) = message a b code value
+abbrev pub made : ApplicationValue → ℤ → ℤ → AskedStep → StepValue
+made A a b (by_operation code value) = A.operation a b code value
+made A a b (by_message code value) = A.message a b code value
 
 -- what a step at a place, from a and b, comes to, and what follows it
 abbrev pub onward : (ℤ → ℤ → TallyValue) → ℕ → ℤ → ℤ → StepValue → TallyValue
@@ -30,9 +30,9 @@ onward next place a b (Refuses n) = record { a = a; b = b; stop = Some (record {
 onward next place a b (Gives a' b' sent) = next a' b'
 
 -- the steps from a place on
-abbrev pub tally_from : StepRule → StepRule → List AskedStep → ℕ → ℤ → ℤ → TallyValue
-tally_from operation message [] place a b = record { a = a; b = b; stop = None }
-tally_from operation message (s ∷ ss) place a b = onward (tally_from operation message ss (place + 1)) place a b (made operation message a b s)
+abbrev pub tally_from : ApplicationValue → List AskedStep → ℕ → ℤ → ℤ → TallyValue
+tally_from A [] place a b = record { a = a; b = b; stop = None }
+tally_from A (s ∷ ss) place a b = onward (tally_from A ss (place + 1)) place a b (made A a b s)
 
 -- ---- the ring register
 abbrev pub offset_of : AskedStep → ℤ
@@ -45,7 +45,7 @@ left_of_axis [] = 0
 left_of_axis (s ∷ ss) = cond (int_lt (offset_of s) (pos 0)) 1 0 + left_of_axis ss
 
 abbrev pub ring_tally : List AskedStep → TallyValue
-ring_tally rings = tally_from ring_operation ring_message rings 0 (pos 0) (pos 0)
+ring_tally rings = tally_from ring_register rings 0 (pos 0) (pos 0)
 
 -- where no ring is refused, a is how many there are, and b how many of them lie left of the axis
 abbrev pub RingsAreCounted : Type 0
@@ -72,7 +72,7 @@ total f [] = pos 0
 total f (s ∷ ss) = f s +ℤ total f ss
 
 abbrev pub stock_tally : List AskedStep → TallyValue
-stock_tally steps = tally_from stock_operation stock_message steps 0 (pos 0) (pos 0)
+stock_tally steps = tally_from segment_stock steps 0 (pos 0) (pos 0)
 
 -- where no step is refused, a is what was added less what was taken, and b what arrived
 abbrev pub StockBalances : Type 0

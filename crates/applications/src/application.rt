@@ -1,17 +1,17 @@
 //! What an application is.
-ghost use Rattle.std.specs.Prelude.{◌≡◌, ℤ};
+ghost use Rattle.std.specs.Prelude.{◌≡◌};
 ghost use Rattle.applications.specs.Meaning.{step_value};
-ghost use Rattle.applications.specs.Steps.{RuleNumbered, StepRule};
+ghost use Rattle.applications.specs.Steps.{ApplicationValue, RuleNumbered};
 
 /// A message that a step sends.
-#[derive(Clone, Copy)]
+#[derive(Clone, Copy, PartialEq, Eq, Debug)]
 pub struct Sent {
     pub code: u8,
     pub value: i64,
 }
 
 /// The chain's new numbers, and at most one message.
-#[derive(Clone, Copy)]
+#[derive(Clone, Copy, PartialEq, Eq, Debug)]
 pub struct Step {
     pub a: i64,
     pub b: i64,
@@ -27,30 +27,22 @@ pub struct ApplicationFault {
 /// An application keeps two numbers, a and b, for each chain. A step depends on these, the code and the
 /// value, and on nothing else: its functions take no `self`.
 pub trait Application {
-    // the numbers of a new chain
-    ghost start_a: { ℤ };
-
-    ghost start_b: { ℤ };
-
-    // a step by an operation of the chain's own block
-    ghost operation: { StepRule };
-
-    // a step by a message that the chain receives
-    ghost message: { StepRule };
+    // the numbers of a new chain, and the two rules of steps
+    ghost meaning: { ApplicationValue };
 
     /// The numbers of a new chain.
     fn start() -> (i64, i64)
-        ensures { result ≡ (start_a, start_b) };
+        ensures { result ≡ (meaning.start_a, meaning.start_b) };
 
     /// A step by an operation. Its message goes to the command's target.
     fn operate(a: i64, b: i64, code: u8, value: i64) -> Result<Step, ApplicationFault>
-        ensures { step_value result ≡ operation a b code value };
+        ensures { step_value result ≡ meaning.operation a b code value };
 
     /// A step by a message. Its reply goes to the sender.
     fn receive(a: i64, b: i64, code: u8, value: i64) -> Result<Step, ApplicationFault>
-        ensures { step_value result ≡ message a b code value };
+        ensures { step_value result ≡ meaning.message a b code value };
 
-    ghost operation_numbered: { RuleNumbered operation };
+    ghost operation_numbered: { RuleNumbered meaning.operation };
 
-    ghost message_numbered: { RuleNumbered message };
+    ghost message_numbered: { RuleNumbered meaning.message };
 }

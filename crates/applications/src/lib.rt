@@ -7,6 +7,6 @@ mod running;
 mod stock;
 
 pub use application::{Application, ApplicationFault, Sent, Step};
-pub use ring::RingRegister;
+pub use ring::{RingFault, RingMessage, RingOperation, RingRegister};
 pub use running::{Asked, Stop, Tally, run_steps};
-pub use stock::SegmentStock;
+pub use stock::{SegmentStock, StockFault, StockMessage, StockOperation};

@@ -1,6 +1,7 @@
 -- A block that was read, and its run over the cursor.
-use Rattle.std.proofs.Common.{◌≡◌, ℕ, zero, suc, ◌+◌, ◌-◌, ◌^◌, ◌<◌, ◌≤◌, Bool, true, false, ◌&&◌, eqb, leb, List, [], ◌∷◌, length, take, drop, Some, Err, sym, refl, ap, ◌∙◌, subst, arith}
-use Rattle.std.specs.Option.{option_map}
+use Rattle.std.proofs.Common.{◌≡◌, ℕ, zero, suc, ◌+◌, ◌-◌, ◌^◌, ◌<◌, ◌≤◌, Bool, true, false, ◌&&◌, eqb, leb, List, [], ◌∷◌, length, take, drop, Some, None, Ok, Err, Option, Result, sym, refl, ap, ◌∙◌, subst, arith}
+use Rattle.std.specs.Option.{option_map, option_flatten}
+use Rattle.std.specs.Result.{result_ok}
 use Rattle.std.proofs.lemmas.Bool.{and_parts, and_from, cond-true, le-leb, lt-ltb}
 use Rattle.format.specs.Layout.{identifier_len, head_len, max_commands, command_byte_len}
 use Rattle.format.specs.Rules.{head_allowed}
@@ -19,10 +20,10 @@ use Rattle.reading.proofs.OnlyBytes.{some_cond, mapped_some}
 use Rattle.reading.proofs.Runs.{step_ok, commands_count}
 use Rattle.committee.specs.Rules.{CommitteeValue}
 use Rattle.books.specs.Values.{ChainValue}
-use Rattle.protocol.specs.Reads.{ApplicationValue}
+use Rattle.applications.specs.Steps.{ApplicationValue}
 use Rattle.protocol.proofs.Outcomes.{refused_passed, passed_is, bind_passed, given_passed, none_some}
 use Rattle.blocks.specs.Drafts.{DraftValue, beginning}
-use Rattle.blocks.specs.Running.{Marks, step_draft, Finished, run_on, finished, block_finished, finished_value}
+use Rattle.blocks.specs.Running.{Marks, step_draft, Finished, run_on, finished, block_finished, finished_value, Yields}
 use Rattle.blocks.proofs.Runs.{run_step, run_ends}
 
 -- the commands of a block that was read
@@ -77,13 +78,22 @@ ends_so : (t : Bool) (cs : List CommandValue) → ◌≡◌ {A = Outcome (List C
 ends_so true cs e = (refl, sym (passed_is e))
 ends_so false cs e = absurd (refused_passed e)
 
+pub none_left : (n k : ℕ) (bs : List ℕ) (cs : List CommandValue) → n ≡ 0 → commands_in n k bs ≡ Passed cs → cs ≡ []
+none_left n k bs cs z e = (ends_so (eqb (length bs) 0) cs (nothing_left n k bs cs z e)).1
+
 -- a cursor over commands that can be read does not stop before the last
 pub no_fault : (v w : CursorValue) (f : ReadFault) → Moved v w (Err f) → (cs : List CommandValue) → commands_in v.left v.place v.rest ≡ Passed cs → cs ≡ []
 no_fault v w Frame m cs e = absurd m
-no_fault v w Block m cs e = (ends_so (eqb (length v.rest) 0) cs (nothing_left v.left v.place v.rest cs m.0 e)).1
+no_fault v w Block m cs e = none_left v.left v.place v.rest cs m.0 e
 no_fault v w (Command k) m cs e =
     let s = next_command v.left v.place v.rest cs m.0 e in
     absurd (none_some (sym m.2 ∙ s.2))
+
+-- the next command, where a refusal is taken for the end
+pub yields : (v w : CursorValue) (r : Result (Option CommandPart) ReadFault) → Moved v w r → Yields v w (option_flatten (result_ok r))
+yields v w (Ok (Some p)) m = m
+yields v w (Ok None) m = λ cs e. none_left v.left v.place v.rest cs m.0 e
+yields v w (Err f) m = no_fault v w f m
 
 -- the cursor at the first command
 pub begins : (at : ℕ) (bs : List ℕ) (n : ℕ) → head_len ≤ length bs → at + length bs < 2 ^ 64 → begun at bs n ≡ record { rest = drop head_len bs; at = at + head_len; place = 0; left = n }

@@ -8,7 +8,8 @@ use Rattle.books.specs.Books.{BooksValue}
 use Rattle.reading.specs.FrameLayout.{block_at, request_marker}
 use Rattle.reading.specs.Blocks.{frame_refusal, block_in}
 use Rattle.reading.specs.Frames.{RequestValue, block_len, begins, request_in}
-use Rattle.protocol.specs.Reads.{SealsValue, ApplicationValue, RequestRead, read_request}
+use Rattle.applications.specs.Steps.{ApplicationValue}
+use Rattle.protocol.specs.Reads.{SealsValue, RequestRead, read_request}
 use Rattle.protocol.specs.Calls.{Ends, considered, propose}
 use Rattle.protocol.proofs.Outcomes.{check_passed, passed_is}
 use Rattle.blocks.specs.Proposing.{request_proposed}

@@ -1,28 +1,28 @@
 -- One command more of a block's run.
 use Rattle.std.proofs.Common.{◌≡◌, ℕ, ◌+◌, Bool, true, false, cond, not, ◌||◌, List, [], ◌∷◌, ◌++◌, sym, refl, ap, ◌∙◌, append_assoc, append-nil}
+use Rattle.std.proofs.lemmas.List.Sums.{fold-append}
 use Rattle.format.specs.Values.{IdentifierValue, MessageValue, CommandValue, opens, changes, closes, executes, receives}
 use Rattle.format.specs.Outcomes.{refusal_at, Outcome, Refused, Passed, ◌>>=◌, ◌>>◌, check}
 use Rattle.committee.specs.Rules.{CommitteeValue}
 use Rattle.books.specs.Values.{MarkValue, marking, plus, minus}
 use Rattle.books.specs.Same.{same_mark}
-use Rattle.books.specs.Books.{Operation, put_record, put_mark, put_outgoing, remove_record, remove_mark, remove_outgoing, updated}
-use Rattle.protocol.specs.Reads.{ApplicationValue}
+use Rattle.books.specs.Books.{Operation, put_mark, remove_mark, updated}
+use Rattle.applications.specs.Steps.{ApplicationValue}
 use Rattle.protocol.specs.Execution.{Ran, run_command, is_close, is_open, run_commands, received}
 use Rattle.protocol.specs.Calls.{receipts}
-use Rattle.blocks.specs.Drafts.{DraftValue, marks_operation, shown}
+use Rattle.blocks.specs.Drafts.{DraftValue, shown, shown_after}
 use Rattle.blocks.specs.Running.{Marks, marks_after, after_command, step_draft, Finished, run_on, finished_value}
 
 -- ---- marks
 
+-- a mark is put, or else removed
+abbrev marks_operation : Bool → MarkValue → Operation
+marks_operation true k = put_mark k
+marks_operation false k = remove_mark k
+
 shown_push : (b p : Bool) (os : List Operation) (j k : MarkValue) → shown b (os ++ (marks_operation p j ∷ [])) k ≡ cond (same_mark j k) p (shown b os k)
-shown_push b true [] j k = refl
-shown_push b false [] j k = refl
-shown_push b p (put_mark x ∷ os) j k = shown_push (cond (same_mark x k) true b) p os j k
-shown_push b p (remove_mark x ∷ os) j k = shown_push (cond (same_mark x k) false b) p os j k
-shown_push b p (put_record c r ∷ os) j k = shown_push b p os j k
-shown_push b p (put_outgoing n o ∷ os) j k = shown_push b p os j k
-shown_push b p (remove_record c ∷ os) j k = shown_push b p os j k
-shown_push b p (remove_outgoing n ∷ os) j k = shown_push b p os j k
+shown_push b true os j k = fold-append (shown_after k) b os (put_mark j ∷ [])
+shown_push b false os j k = fold-append (shown_after k) b os (remove_mark j ∷ [])
 
 module _ (M : Marks) (c : IdentifierValue) where
   after_push : (os : List Operation) (p : Bool) (j : MarkValue) → marks_after M (os ++ (marks_operation p j ∷ [])) ≡ updated same_mark j p (marks_after M os)
@@ -78,7 +78,7 @@ module _ (C : CommitteeValue) (A : ApplicationValue) (M : Marks) (c : Identifier
       λ i. Passed (record { ran = record { state = q.state; sent = sym (append_assoc d.sent r.sent q.sent) i }; operations = receipts_split M c d.operations x xs i })
 
   by_step : (k : ℕ) (d : DraftValue) (x : CommandValue) (xs : List CommandValue) (t : Bool) (o : Outcome Ran)
-      → (s : Outcome DraftValue) → (check t (refusal_at 13 k) >> (o >>= λ r. Passed (after_command M c d x r))) ≡ s
+      → (s : Outcome DraftValue) → ((check t (refusal_at 13 k) >> o) >>= λ r. Passed (after_command M c d x r)) ≡ s
       → ((check t (refusal_at 13 k)
       >> (o >>= λ r. run_commands C A c h (k + 1) (is_close x) (is_open x || d.opened) r.state xs >>= λ q. Passed (behind r q)))
       >>= λ q. Passed (whole d (all_of d (x ∷ xs)) q))

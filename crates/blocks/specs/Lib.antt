@@ -1,4 +1,3 @@
 pub mod Drafts
 pub mod Running
-pub mod Opened
 pub mod Proposing

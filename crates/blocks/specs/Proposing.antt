@@ -11,7 +11,8 @@ use Rattle.reading.specs.Blocks.{block_in}
 use Rattle.reading.specs.Frames.{RequestValue}
 use Rattle.faults.specs.Refusals.{call_refusal}
 use Rattle.faults.specs.declared.CallFault.{CallFault}
-use Rattle.protocol.specs.Reads.{SealsValue, ApplicationValue}
+use Rattle.applications.specs.Steps.{ApplicationValue}
+use Rattle.protocol.specs.Reads.{SealsValue}
 use Rattle.protocol.specs.Calls.{Done, with_vote, considered}
 
 -- a check of a call

@@ -1,11 +1,11 @@
 -- One command on a draft, and all commands of a block.
-use Rattle.std.specs.Prelude.{◌≡◌, ℕ, Bool, true, false, not, ◌||◌, List, [], ◌∷◌, ◌++◌, ℤ, Some, None, Ok, Err, Option, Result}
+use Rattle.std.specs.Prelude.{◌≡◌, ℕ, Bool, false, not, List, [], ◌∷◌, ◌++◌, Some, None, Ok, Err, Option, Result}
 use Rattle.format.specs.Layout.{open_byte, change_byte, close_byte, execute_byte, receive_byte}
 use Rattle.format.specs.Values.{IdentifierValue, CommandValue, opens, changes, closes, executes, receives, BlockValue}
 use Rattle.format.specs.Outcomes.{refusal_at, Outcome, Refused, Passed, ◌>>=◌, ◌>>◌, check}
 use Rattle.committee.specs.Rules.{CommitteeValue}
-use Rattle.applications.specs.Steps.{SentValue, StepValue, Refuses, Gives, StepRule}
-use Rattle.books.specs.Values.{ChainValue, MarkValue, opening}
+use Rattle.applications.specs.Steps.{ApplicationValue}
+use Rattle.books.specs.Values.{ChainValue, MarkValue, EntryValue, opening}
 use Rattle.books.specs.Books.{Operation}
 use Rattle.reading.specs.Blocks.{commands_in, block_in}
 use Rattle.reading.specs.Cursors.{CursorValue, Handed}
@@ -13,10 +13,10 @@ use Rattle.reading.specs.declared.command.CommandPart.{CommandPart}
 use Rattle.faults.specs.Refusals.{command_refusal}
 use Rattle.faults.specs.declared.AtCommand.{AtCommand}
 use Rattle.faults.specs.declared.CommandFault.{CommandFault}
-use Rattle.protocol.specs.Reads.{ApplicationValue}
-use Rattle.protocol.specs.Execution.{child_allowed, Ran, entry, message_entries, run_command, is_close, is_open, run_commands, executed, received}
+use Rattle.protocol.specs.Execution.{child_allowed, RunState, Ran, entry, stepped, run_command, run_commands, executed, received}
 use Rattle.protocol.specs.Calls.{receipts}
-use Rattle.blocks.specs.Drafts.{DraftValue, draft_value, shown}
+use Rattle.blocks.specs.Drafts.{DraftValue, draft_value, ran_value, with_command, shown}
+use Rattle.blocks.specs.declared.draft.Ran.{Ran as RanCommand}
 use Rattle.blocks.specs.declared.draft.Draft.{Draft}
 
 abbrev pub Marks : Type 0
@@ -26,39 +26,25 @@ Marks = MarkValue → Bool
 abbrev pub marks_after : Marks → List Operation → Marks
 marks_after M os = λ k. shown (M k) os k
 
-abbrev pub with_operations : DraftValue → List Operation → DraftValue
-with_operations d os = record { state = d.state; closed = d.closed; opened = d.opened; operations = d.operations ++ os; sent = d.sent }
-
--- the new numbers, and the message that goes to the target
-abbrev pub applied : IdentifierValue → ℕ → ℕ → IdentifierValue → DraftValue → ℤ → ℤ → Option SentValue → DraftValue
-applied c h k target d a b s = record {
-  state = record { owner = d.state.owner; a = a; b = b };
-  closed = d.closed;
-  opened = d.opened;
-  operations = d.operations;
-  sent = d.sent ++ message_entries c h k target s;
-}
-
 -- the draft after a command that ran
 abbrev pub after_command : Marks → IdentifierValue → DraftValue → CommandValue → Ran → DraftValue
-after_command M c d x r = record {
-  state = r.state;
-  closed = is_close x;
-  opened = is_open x || d.opened;
-  operations = d.operations ++ receipts c (marks_after M d.operations) (received (x ∷ []));
-  sent = d.sent ++ r.sent;
-}
+after_command M c d x r = with_command d x r (receipts c (marks_after M d.operations) (received (x ∷ [])))
 
 -- the command at place k
+abbrev pub command_ran : CommitteeValue → ApplicationValue → IdentifierValue → ℕ → ℕ → DraftValue → CommandValue → Outcome Ran
+command_ran C A c h k d x = check (not d.closed) (refusal_at 13 k) >> run_command C A c h k d.opened d.state x
+
 abbrev pub step_draft : CommitteeValue → ApplicationValue → Marks → IdentifierValue → ℕ → ℕ → DraftValue → CommandValue → Outcome DraftValue
-step_draft C A M c h k d x =
-    check (not d.closed) (refusal_at 13 k) >>
-    (run_command C A c h k d.opened d.state x >>= λ r.
-    Passed (after_command M c d x r))
+step_draft C A M c h k d x = command_ran C A c h k d x >>= λ r. Passed (after_command M c d x r)
 
 abbrev pub step_answer : ℕ → Result (Unit {0}) CommandFault → DraftValue → Outcome DraftValue
 step_answer k (Ok u) d = Passed d
 step_answer k (Err f) d = Refused (command_refusal k f)
+
+-- a command that ran, or its refusal
+abbrev pub ran_answer : ℕ → Result RanCommand CommandFault → Outcome Ran
+ran_answer k (Ok r) = Passed (ran_value r)
+ran_answer k (Err f) = Refused (command_refusal k f)
 
 abbrev pub byte_of : CommandValue → ℕ
 byte_of (opens child key) = open_byte
@@ -89,39 +75,21 @@ index_of closes = 0
 index_of (executes code argument target) = 0
 index_of (receives m) = m.name.index
 
--- the draft with the child of an Open
-abbrev pub with_opening : IdentifierValue → ℕ → ℕ → DraftValue → CommandValue → DraftValue
-with_opening c h k d (opens child key) = record {
-  state = d.state;
-  closed = d.closed;
-  opened = true;
-  operations = d.operations;
-  sent = d.sent ++ entry c h k child (opening key) ∷ [];
-}
-with_opening c h k d (changes key) = d
-with_opening c h k d closes = d
-with_opening c h k d (executes code argument target) = d
-with_opening c h k d (receives m) = d
+-- the row that an Open sends
+abbrev pub opening_entries : IdentifierValue → ℕ → ℕ → CommandValue → List EntryValue
+opening_entries c h k (opens child key) = entry c h k child (opening key) ∷ []
+opening_entries c h k (changes key) = []
+opening_entries c h k closes = []
+opening_entries c h k (executes code argument target) = []
+opening_entries c h k (receives m) = []
 
--- the draft after a step of the application, which may refuse
-abbrev pub with_step : IdentifierValue → ℕ → ℕ → IdentifierValue → DraftValue → StepValue → Outcome DraftValue
-with_step c h k target d (Refuses n) = Refused (record { number = 17; place = k; inner = n })
-with_step c h k target d (Gives a b s) = Passed (applied c h k target d a b s)
-
-abbrev pub with_execute : StepRule → IdentifierValue → ℕ → ℕ → DraftValue → CommandValue → Outcome DraftValue
-with_execute rule c h k d (executes code argument target) = with_step c h k target d (rule d.state.a d.state.b code argument)
-with_execute rule c h k d (opens child key) = Passed d
-with_execute rule c h k d (changes key) = Passed d
-with_execute rule c h k d closes = Passed d
-with_execute rule c h k d (receives m) = Passed d
-
-abbrev pub with_receive : StepRule → Marks → IdentifierValue → ℕ → ℕ → DraftValue → CommandValue → Outcome DraftValue
-with_receive rule M c h k d (receives m) =
-    with_step c h k m.name.sender (with_operations d (receipts c (marks_after M d.operations) (m ∷ []))) (rule d.state.a d.state.b m.code m.value)
-with_receive rule M c h k d (opens child key) = Passed d
-with_receive rule M c h k d (changes key) = Passed d
-with_receive rule M c h k d closes = Passed d
-with_receive rule M c h k d (executes code argument target) = Passed d
+-- the application's step by a command, if it makes one
+abbrev pub command_stepped : ApplicationValue → IdentifierValue → ℕ → ℕ → RunState → CommandValue → Outcome Ran
+command_stepped A c h k s (opens child key) = Passed (record { state = s; sent = [] })
+command_stepped A c h k s (changes key) = Passed (record { state = s; sent = [] })
+command_stepped A c h k s closes = Passed (record { state = s; sent = [] })
+command_stepped A c h k s (executes code argument target) = stepped c h k s.owner target (A.operation s.a s.b code argument)
+command_stepped A c h k s (receives m) = stepped c h k s.owner m.name.sender (A.message s.a s.b m.code m.value)
 
 -- a block that ran: the chain with the rows sent, and the changes of marks
 pub record Finished : Type 0 where

@@ -1,7 +1,6 @@
 //! Proposing a block: the vote of this member.
 ghost use Rattle.std.specs.Prelude.{◌≡◌, ◌+◌, ◌^◌, ◌<◌, ◌||◌, [], length};
 ghost use Rattle.std.specs.Option.{option_map};
-ghost use Rattle.format.specs.Layout.{max_commands};
 ghost use Rattle.format.specs.Meaning.{digest_value, identifier_value};
 ghost use Rattle.books.specs.Lists.{any};
 ghost use Rattle.books.specs.Books.{puts};
@@ -11,15 +10,14 @@ ghost use Rattle.format.specs.Values.{BlockValue};
 ghost use Rattle.reading.specs.Blocks.{block_in, block_of};
 ghost use Rattle.faults.specs.Refusals.{call_answer};
 ghost use Rattle.committee.specs.Meaning.{members_value};
-ghost use Rattle.protocol.specs.Reads.{application, scheme};
-ghost use Rattle.blocks.specs.Opened.{Opens};
+ghost use Rattle.protocol.specs.Reads.{scheme};
 ghost use Rattle.reading.specs.Frames.{request_value};
 ghost use Rattle.reading.specs.Parts.{head_value};
 ghost use Rattle.protocol.specs.Calls.{Ends, chain_in, considered, in_turn, owned, propose as spec_propose, votes_at_most};
-ghost use Rattle.blocks.specs.Drafts.{Within, changes_value, draft_value};
+ghost use Rattle.blocks.specs.Drafts.{draft_value};
 ghost use Rattle.blocks.specs.Proposing.{FoundAt, ballot_answer, chain_answer, check_answer, request_proposed};
 
-use crate::draft::{Change, Draft};
+use crate::draft::{Draft, some_put};
 use crate::opening::{Opened, open_block};
 use crate::running::run_block;
 use applications::Application;
@@ -27,7 +25,7 @@ use books::{Books, Record};
 use committee::{Member, is_committee};
 use faults::CallFault;
 use format::{Digest, Identifier};
-use reading::{Head, Part, Request, read_request};
+use reading::{Head, Request, read_request};
 use seals::Seals;
 
 // The record of a chain that has an owner.
@@ -35,15 +33,10 @@ pub(crate) fn owned_record<B: Books>(books: &B, chain: &Identifier) -> Result<Re
     ensures value { chain_answer result ≡ owned (chain_in ((B.Books.meaning books.now).rows.record_at (identifier_value chain.now))) }
     ensures there { FoundAt (B.Books.meaning books.now).rows (identifier_value chain.now) result }
 {
-    match books.record(chain) {
-        Some(row) => {
-            if row.owner.0 == 0 {
-                return Err(CallFault::NoOwner);
-            }
-            Ok(row)
-        }
-        None => Err(CallFault::NoOwner),
-    }
+    books
+        .record(chain)
+        .filter(|row| row.owner.0 != 0)
+        .ok_or(CallFault::NoOwner)
 }
 
 // Whether a block with this head stands at the next height of its chain, on the last digest.
@@ -66,30 +59,15 @@ pub(crate) fn check_turn(row: &Record, head: &Head) -> Result<(), CallFault>
 fn may_vote(vote: Option<Digest>, digest: &Digest) -> bool
     ensures { result ≡ votes_at_most (digest_value digest.now) (option_map digest_value vote) }
 {
-    match vote {
-        Some(voted) => voted == *digest,
-        None => true,
-    }
-}
-
-// Whether some mark is put.
-fn has_put(changes: &[Change]) -> bool
-    ensures { result ≡ any puts (changes_value changes.now) }
-{
-    for change in changes {
-        if change.put {
-            return true;
-        }
-    }
-    false
+    vote.is_none_or(|voted| voted == *digest)
 }
 
 // Whether minus marks of the chain remain after the block.
+#[tactic(auto, using(crate::proofs::Drafts::any_put))]
 fn is_owing<B: Books>(books: &B, chain: &Identifier, draft: &Draft) -> bool
-    requires { Within draft.now max_commands }
     ensures { result ≡ ((B.Books.meaning books.now).owing (identifier_value chain.now) || any puts (draft_value draft.now).operations) }
 {
-    books.has_minus(chain) || has_put(&draft.changes[..draft.changed])
+    books.has_minus(chain) || some_put(&draft.changes)
 }
 
 // The record of the chain on which the request's block is voted for. The books are not changed.
@@ -97,13 +75,10 @@ fn consider<A: Application, B: Books, S: Seals>(
     books: &B,
     seals: &S,
     members: &[Member],
-    block: Part,
     opened: &Opened,
     seal: &[u8],
 ) -> Result<Record, CallFault>
-    requires opens { Opens block.bytes.now (head_value opened.now.head) (digest_value opened.now.digest) }
-    requires place { block.at + length block.bytes.now < 2 ^ 64 }
-    ensures value { (b : BlockValue) → block_in block.entry.bytes.now ≡ Passed b → ballot_answer (digest_value opened.now.digest) result ≡ considered (members_value members.now) (application A.Application.start_a A.Application.start_b A.Application.operation A.Application.message) (scheme S.Seals.width (S.Seals.holds seals.now)) (B.Books.meaning books.now) b seal.now }
+    ensures value { (b : BlockValue) → block_in opened.now.block.bytes.now ≡ Passed b → ballot_answer (digest_value opened.now.digest) result ≡ considered (members_value members.now) A.Application.meaning (scheme S.Seals.width (S.Seals.holds seals.now)) (B.Books.meaning books.now) b seal.now }
     ensures there { FoundAt (B.Books.meaning books.now).rows (identifier_value opened.now.head.chain) result }
 {
     let row = owned_record(books, &opened.head.chain)?;
@@ -114,7 +89,7 @@ fn consider<A: Application, B: Books, S: Seals>(
     if !may_vote(row.vote, &opened.digest) {
         return Err(CallFault::Voted);
     }
-    let draft = run_block::<A, B>(books, members, block, &opened.head, &row)?;
+    let draft = run_block::<A, B>(books, members, opened, &row)?;
     if is_owing(books, &opened.head.chain, &draft) {
         return Err(CallFault::MinusMarks);
     }
@@ -126,19 +101,17 @@ fn vote<A: Application, B: Books, S: Seals>(
     books: &mut B,
     seals: &S,
     members: &[Member],
-    block: Part,
     opened: &Opened,
     seal: &[u8],
 ) -> Result<Digest, CallFault>
-    requires opens { Opens block.bytes.now (head_value opened.now.head) (digest_value opened.now.digest) }
-    requires place { block.at + length block.bytes.now < 2 ^ 64 }
-    ensures change { (b : BlockValue) → block_in block.entry.bytes.now ≡ Passed b → Ends (considered (members_value members.now) (application A.Application.start_a A.Application.start_b A.Application.operation A.Application.message) (scheme S.Seals.width (S.Seals.holds seals.now)) (B.Books.meaning books.old) b seal.now) (B.Books.meaning books.old) (call_answer result) (B.Books.meaning books.new) }
+    ensures change { (b : BlockValue) → block_in opened.now.block.bytes.now ≡ Passed b → Ends (considered (members_value members.now) A.Application.meaning (scheme S.Seals.width (S.Seals.holds seals.now)) (B.Books.meaning books.old) b seal.now) (B.Books.meaning books.old) (call_answer result) (B.Books.meaning books.new) }
     ensures rest { B.Books.outside books.new ≡ B.Books.outside books.old }
 {
-    let row = consider::<A, B, S>(books, seals, members, block, opened, seal)?;
-    let mut voted = row;
-    voted.vote = Some(opened.digest);
-    let _ = books.put_record(voted);
+    let row = consider::<A, B, S>(books, seals, members, opened, seal)?;
+    let _ = books.put_record(Record {
+        vote: Some(opened.digest),
+        ..row
+    });
     Ok(opened.digest)
 }
 
@@ -150,18 +123,11 @@ fn propose_request<A: Application, B: Books, S: Seals>(
     request: Request,
 ) -> Result<Digest, CallFault>
     requires { request.block.at + length request.block.bytes.now < 2 ^ 64 }
-    ensures change { Ends (request_proposed (members_value members.now) (application A.Application.start_a A.Application.start_b A.Application.operation A.Application.message) (scheme S.Seals.width (S.Seals.holds seals.now)) (B.Books.meaning books.old) (request_value request.entry)) (B.Books.meaning books.old) (call_answer result) (B.Books.meaning books.new) }
+    ensures change { Ends (request_proposed (members_value members.now) A.Application.meaning (scheme S.Seals.width (S.Seals.holds seals.now)) (B.Books.meaning books.old) (request_value request.entry)) (B.Books.meaning books.old) (call_answer result) (B.Books.meaning books.new) }
     ensures rest { B.Books.outside books.new ≡ B.Books.outside books.old }
 {
     let opened = open_block(request.block)?;
-    vote::<A, B, S>(
-        books,
-        seals,
-        members,
-        request.block,
-        &opened,
-        request.seal.bytes,
-    )
+    vote::<A, B, S>(books, seals, members, &opened, request.seal.bytes)
 }
 
 /// Runs the block of a request on a copy and, where it is accepted, sets this member's vote. Nothing else changes. It answers
@@ -174,7 +140,7 @@ pub fn propose<A: Application, B: Books, S: Seals>(
     members: &[Member],
     frame: &[u8],
 ) -> Result<Digest, CallFault>
-    ensures change { Ends (spec_propose (members_value members.now) (application A.Application.start_a A.Application.start_b A.Application.operation A.Application.message) (scheme S.Seals.width (S.Seals.holds seals.now)) (B.Books.meaning books.old) frame.now) (B.Books.meaning books.old) (call_answer result) (B.Books.meaning books.new) }
+    ensures change { Ends (spec_propose (members_value members.now) A.Application.meaning (scheme S.Seals.width (S.Seals.holds seals.now)) (B.Books.meaning books.old) frame.now) (B.Books.meaning books.old) (call_answer result) (B.Books.meaning books.new) }
     ensures rest { B.Books.outside books.new ≡ B.Books.outside books.old }
 {
     if !is_committee(members) {

@@ -66,3 +66,11 @@ impl Outgoing {
         }
     }
 }
+
+impl Default for Outgoing {
+    ghost is_default = { λ row. entry_value row ≡ blank_entry };
+
+    fn default() -> Outgoing {
+        Outgoing::blank()
+    }
+}

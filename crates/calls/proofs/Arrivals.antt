@@ -9,7 +9,7 @@ use Rattle.books.specs.Values.{RecordValue, plus, minus, marking, LoadValue, ope
 use Rattle.books.specs.Counts.{Counts, counts}
 use Rattle.books.specs.Books.{Rows, BooksValue, Laws, Operation, chain_of, puts, put_record, put_mark, remove_mark, remove_outgoing, apply, apply_all, goes, Step, Changed, needed}
 use Rattle.books.proofs.Changes.{changed_push, needed_goes, needed_left}
-use Rattle.protocol.specs.Reads.{ApplicationValue}
+use Rattle.applications.specs.Steps.{ApplicationValue}
 use Rattle.protocol.specs.Calls.{new_record, made, record_or_new, unopened, with_owner, message_of, arrives, arrival, Ends, deliver}
 use Rattle.calls.specs.Arrivals.{missing, load_marks, arrival_counts}
 

@@ -13,7 +13,7 @@ use Rattle.books.specs.Counts.{counts}
 use Rattle.books.specs.Books.{BooksValue, Laws, Operation, put_record, present, goes, Step, Tried, Changed}
 use Rattle.books.specs.declared.side.Side.TheVariants.{All}
 use Rattle.books.proofs.Changes.{went, step_fits}
-use Rattle.protocol.specs.Reads.{ApplicationValue}
+use Rattle.applications.specs.Steps.{ApplicationValue}
 use Rattle.protocol.specs.Execution.{key_allowed}
 use Rattle.protocol.specs.Calls.{new_record, max_roots, root_of, root_keys_allowed, roots_allowed, roots_fit, root_records, Ends, start}
 use Rattle.calls.specs.Roots.{keys_value}

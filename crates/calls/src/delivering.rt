@@ -8,7 +8,6 @@ ghost use Rattle.books.specs.Values.{marking, minus, plus};
 ghost use Rattle.calls.specs.Arrivals.{arrival_counts, new_marks};
 ghost use Rattle.protocol.specs.Calls.{Ends, arrival, deliver as spec_deliver, made, message_of, new_record, record_or_new, unopened, with_owner};
 ghost use Rattle.faults.specs.Refusals.{call_answer};
-ghost use Rattle.protocol.specs.Reads.{application};
 
 use crate::records::{NO_DIGEST, new_record};
 use applications::Application;
@@ -66,10 +65,10 @@ fn make_target<A: Application, B: Books>(
 ) -> Record
     requires value { option_map record_value found ≡ (B.Books.meaning books.old).rows.record_at (identifier_value target) }
     requires key { IfSome found (λ x. record_key x ≡ identifier_value target) }
-    requires place { (B.Books.meaning books.old).rows.record_at (identifier_value target) ≡ None → goes (B.Books.meaning books.old) (put_record (identifier_value target) (new_record (application A.Application.start_a A.Application.start_b A.Application.operation A.Application.message) 0)) ≡ true }
-    ensures value { record_value result ≡ record_or_new (application A.Application.start_a A.Application.start_b A.Application.operation A.Application.message) ((B.Books.meaning books.old).rows.record_at (identifier_value target)) }
+    requires place { (B.Books.meaning books.old).rows.record_at (identifier_value target) ≡ None → goes (B.Books.meaning books.old) (put_record (identifier_value target) (new_record A.Application.meaning 0)) ≡ true }
+    ensures value { record_value result ≡ record_or_new A.Application.meaning ((B.Books.meaning books.old).rows.record_at (identifier_value target)) }
     ensures key { record_key result ≡ identifier_value target }
-    ensures change { Changed (B.Books.meaning books.old) (made (application A.Application.start_a A.Application.start_b A.Application.operation A.Application.message) (identifier_value target) ((B.Books.meaning books.old).rows.record_at (identifier_value target))) (B.Books.meaning books.new) }
+    ensures change { Changed (B.Books.meaning books.old) (made A.Application.meaning (identifier_value target) ((B.Books.meaning books.old).rows.record_at (identifier_value target))) (B.Books.meaning books.new) }
     ensures rest { B.Books.outside books.new ≡ B.Books.outside books.old }
 {
     match found {
@@ -137,8 +136,8 @@ fn arrival_rows<B: Books>(books: &B, row: &Outgoing, found: Option<Record>) -> N
 fn arrive<A: Application, B: Books>(books: &mut B, row: &Outgoing, found: Option<Record>)
     requires value { option_map record_value found ≡ (B.Books.meaning books.old).rows.record_at (identifier_value row.now.target) }
     requires key { IfSome found (λ x. record_key x ≡ identifier_value row.now.target) }
-    requires place { (B.Books.meaning books.old).fits (identifier_value row.now.target) (needed (B.Books.meaning books.old).rows (arrival (application A.Application.start_a A.Application.start_b A.Application.operation A.Application.message) (B.Books.meaning books.old).rows (outgoing_key row.now) (outgoing_value row.now))) ≡ true }
-    ensures change { Changed (B.Books.meaning books.old) (arrival (application A.Application.start_a A.Application.start_b A.Application.operation A.Application.message) (B.Books.meaning books.old).rows (outgoing_key row.now) (outgoing_value row.now)) (B.Books.meaning books.new) }
+    requires place { (B.Books.meaning books.old).fits (identifier_value row.now.target) (needed (B.Books.meaning books.old).rows (arrival A.Application.meaning (B.Books.meaning books.old).rows (outgoing_key row.now) (outgoing_value row.now))) ≡ true }
+    ensures change { Changed (B.Books.meaning books.old) (arrival A.Application.meaning (B.Books.meaning books.old).rows (outgoing_key row.now) (outgoing_value row.now)) (B.Books.meaning books.new) }
     ensures rest { B.Books.outside books.new ≡ B.Books.outside books.old }
 {
     let target = make_target::<A, B>(books, row.target, found);
@@ -152,7 +151,7 @@ fn arrive<A: Application, B: Books>(books: &mut B, row: &Outgoing, found: Option
 /// message removes its minus mark, or else puts a plus mark. The target's record is made where it is missing, and the row is
 /// then removed. Refusals: 20 where there is no such row, 19 where the new record and mark do not fit.
 pub fn deliver<A: Application, B: Books>(books: &mut B, name: &Name) -> Result<Digest, CallFault>
-    ensures change { Ends (spec_deliver (application A.Application.start_a A.Application.start_b A.Application.operation A.Application.message) (B.Books.meaning books.old) (name_value name.now)) (B.Books.meaning books.old) (call_answer result) (B.Books.meaning books.new) }
+    ensures change { Ends (spec_deliver A.Application.meaning (B.Books.meaning books.old) (name_value name.now)) (B.Books.meaning books.old) (call_answer result) (B.Books.meaning books.new) }
     ensures rest { B.Books.outside books.new ≡ B.Books.outside books.old }
 {
     let Some(row) = books.outgoing(name) else {

@@ -3,7 +3,6 @@ ghost use Rattle.std.specs.Prelude.{◌≡◌};
 ghost use Rattle.format.specs.Meaning.{identifier_value};
 ghost use Rattle.books.specs.Meaning.{record_key, record_value};
 ghost use Rattle.protocol.specs.Calls.{new_record};
-ghost use Rattle.protocol.specs.Reads.{application};
 
 use applications::Application;
 use books::Record;
@@ -18,7 +17,7 @@ pub(crate) const NO_DIGEST: Digest = Digest {
 // The record of a chain that has no block.
 pub(crate) fn new_record<A: Application>(chain: Identifier, owner: Key) -> Record
     ensures key { record_key result ≡ identifier_value chain }
-    ensures value { record_value result ≡ new_record (application A.Application.start_a A.Application.start_b A.Application.operation A.Application.message) owner.0 }
+    ensures value { record_value result ≡ new_record A.Application.meaning owner.0 }
 {
     let (a, b) = A::start();
     Record {

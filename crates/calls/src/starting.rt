@@ -6,7 +6,6 @@ ghost use Rattle.calls.specs.Roots.{keys_value};
 ghost use Rattle.committee.specs.Meaning.{members_value};
 ghost use Rattle.faults.specs.Refusals.{call_answer};
 ghost use Rattle.protocol.specs.Calls.{Ends, max_roots, root_keys_allowed, root_of, root_records, roots_allowed, roots_fit, start as spec_start};
-ghost use Rattle.protocol.specs.Reads.{application};
 
 use crate::records::{NO_DIGEST, new_record};
 use applications::Application;
@@ -62,7 +61,7 @@ fn roots_fit<B: Books>(books: &B, roots: &[Key]) -> bool
 fn put_roots<A: Application, B: Books>(books: &mut B, roots: &[Key])
     requires few { length roots.now ≤ max_roots }
     requires place { roots_fit (B.Books.meaning books.old) (length roots.now) 0 (keys_value roots.now) ≡ true }
-    ensures change { Changed (B.Books.meaning books.old) (root_records (application A.Application.start_a A.Application.start_b A.Application.operation A.Application.message) 0 (keys_value roots.now)) (B.Books.meaning books.new) }
+    ensures change { Changed (B.Books.meaning books.old) (root_records A.Application.meaning 0 (keys_value roots.now)) (B.Books.meaning books.new) }
     ensures rest { B.Books.outside books.new ≡ B.Books.outside books.old }
 {
     for (place, root) in roots.iter().enumerate() {
@@ -79,7 +78,7 @@ pub fn start<A: Application, B: Books>(
     members: &[Member],
     roots: &[Key],
 ) -> Result<Digest, CallFault>
-    ensures change { Ends (spec_start (members_value members.now) (application A.Application.start_a A.Application.start_b A.Application.operation A.Application.message) (keys_value roots.now) (B.Books.meaning books.old)) (B.Books.meaning books.old) (call_answer result) (B.Books.meaning books.new) }
+    ensures change { Ends (spec_start (members_value members.now) A.Application.meaning (keys_value roots.now) (B.Books.meaning books.old)) (B.Books.meaning books.old) (call_answer result) (B.Books.meaning books.new) }
     ensures rest { B.Books.outside books.new ≡ B.Books.outside books.old }
 {
     if !is_committee(members) {

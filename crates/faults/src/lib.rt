@@ -9,65 +9,67 @@ ghost use Rattle.faults.specs.Refusals.{call_refusal, CarriesApplication, Carrie
 use applications::ApplicationFault;
 use format::Refusal;
 use reading::ReadFault;
+use thiserror::Error;
 
 /// Why a command is refused.
-#[derive(Clone, Copy)]
+#[derive(Clone, Copy, PartialEq, Eq, Debug, Error)]
 pub enum CommandFault {
-    /// It follows a Close.
+    #[error("it follows a Close")]
     AfterClose,
-    /// Its key is 0 or a member's.
+    #[error("its key is 0 or a member's")]
     Key,
-    /// Its child is not this chain's identifier followed by this height, or the depth is 4.
+    #[error("its child is not this identifier followed by this height, or the depth is 4")]
     Child,
-    /// It is the second Open of its block.
+    #[error("it is a second Open of its block")]
     SecondOpen,
-    /// The application refuses.
+    #[error("the application refuses it, number {}", .0.number)]
     Application(ApplicationFault),
 }
 
 /// The fault of the command at a place of the block, from 0.
-#[derive(Clone, Copy)]
+#[derive(Clone, Copy, PartialEq, Eq, Debug, Error)]
+#[error("command {place}: {fault}")]
 pub struct AtCommand {
     pub place: usize,
     pub fault: CommandFault,
 }
 
-/// Why a call is refused.
-#[derive(Clone, Copy)]
+/// Why a call is refused. Members and seals are named by the place of the seal, from 0.
+#[derive(Clone, Copy, PartialEq, Eq, Debug, Error)]
 pub enum CallFault {
-    /// The frame or its block is not read.
+    #[error("the frame or its block is not read")]
     Reading(ReadFault),
-    /// The member of the seal at this place is outside the committee, or not above the one before.
+    #[error("seal {0}: its member is outside the committee, or not above the one before")]
     Member(usize),
-    /// The seal at this place is not held.
+    #[error("seal {0} is not held")]
     Seal(usize),
-    /// The weight is below the quorum.
+    #[error("the weight is below the quorum")]
     Weight,
-    /// There is no record, or no owner.
+    #[error("there is no record, or no owner")]
     NoOwner,
-    /// The owner's seal is not held.
+    #[error("the owner's seal is not held")]
     OwnerSeal,
-    /// The height is above the next height.
+    #[error("the height is above the next height")]
     HeightAbove,
-    /// The height is below the next height.
+    #[error("the height is below the next height")]
     HeightBelow,
-    /// The previous digest is not the record's.
+    #[error("the previous digest is not the record's")]
     Previous,
-    /// Another digest is voted.
+    #[error("another digest is voted")]
     Voted,
-    /// A command is refused.
+    #[error(transparent)]
     Command(AtCommand),
-    /// Minus marks of the chain remain after the block.
+    #[error("minus marks of the chain remain after the block")]
     MinusMarks,
-    /// The books have no place.
+    #[error("there is no place")]
     NoPlace,
-    /// There is no outgoing row of that name.
+    #[error("there is no outgoing row of that name")]
     NoOutgoing,
-    /// The committee is outside its rules.
+    #[error("the committee is outside its rules")]
     Committee,
-    /// The root count is outside 1 to 64, or a root key is 0 or a member's.
+    #[error("the root count is outside 1 to 64, or a root key is 0 or a member's")]
     Roots,
-    /// The books hold a row.
+    #[error("the books hold a row")]
     NotBlank,
 }
 
@@ -111,12 +113,13 @@ fn refusal_at(number: u8, place: usize) -> Refusal
     }
 }
 
-impl AtCommand {
-    fn refusal(self) -> Refusal
-        ensures { refusal_value result ≡ command_refusal self.place self.fault }
-    {
-        let place = self.place;
-        match self.fault {
+// The numbers 1 to 25 are the format of a call's answer.
+impl From<AtCommand> for Refusal {
+    ghost from_gives = { λ at gives. refusal_value gives ≡ command_refusal at.place at.fault };
+
+    fn from(at: AtCommand) -> Refusal {
+        let place = at.place;
+        match at.fault {
             CommandFault::AfterClose => refusal_at(13, place),
             CommandFault::Key => refusal_at(14, place),
             CommandFault::Child => refusal_at(15, place),
@@ -130,12 +133,11 @@ impl AtCommand {
     }
 }
 
-impl CallFault {
-    /// The numbers of the refusal.
-    pub fn refusal(self) -> Refusal
-        ensures { refusal_value result ≡ call_refusal self }
-    {
-        match self {
+impl From<CallFault> for Refusal {
+    ghost from_gives = { λ fault gives. refusal_value gives ≡ call_refusal fault };
+
+    fn from(fault: CallFault) -> Refusal {
+        match fault {
             CallFault::Reading(unread) => unread.refusal(),
             CallFault::Member(place) => refusal_at(4, place),
             CallFault::Seal(place) => refusal_at(5, place),
@@ -146,7 +148,7 @@ impl CallFault {
             CallFault::HeightBelow => refusal(10),
             CallFault::Previous => refusal(11),
             CallFault::Voted => refusal(12),
-            CallFault::Command(at) => at.refusal(),
+            CallFault::Command(at) => at.into(),
             CallFault::MinusMarks => refusal(18),
             CallFault::NoPlace => refusal(19),
             CallFault::NoOutgoing => refusal(20),

@@ -13,7 +13,8 @@ use Rattle.books.specs.Counts.{counts}
 use Rattle.books.specs.Lists.{any}
 use Rattle.books.specs.Books.{Rows, BooksValue, Operation, put_record, put_mark, put_outgoing, remove_mark, remove_outgoing, puts, updated, Changed, needed}
 use Rattle.books.specs.declared.side.Side.TheVariants.{All}
-use Rattle.protocol.specs.Reads.{SealsValue, ApplicationValue, block_digest, read_request, read_certificate}
+use Rattle.applications.specs.Steps.{ApplicationValue}
+use Rattle.protocol.specs.Reads.{SealsValue, block_digest, read_request, read_certificate}
 use Rattle.protocol.specs.Execution.{key_allowed, Ran, executed, advanced, received}
 
 -- ---- what calls have in common

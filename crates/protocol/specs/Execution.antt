@@ -5,9 +5,8 @@ use Rattle.format.specs.Values.{IdentifierValue, DigestValue, MessageValue, Comm
 use Rattle.format.specs.Same.{same_identifier}
 use Rattle.format.specs.Outcomes.{refusal_at, Outcome, Refused, Passed, ◌>>=◌, ◌>>◌, check}
 use Rattle.committee.specs.Rules.{CommitteeValue, has_key}
-use Rattle.applications.specs.Steps.{SentValue, StepValue, Refuses, Gives}
+use Rattle.applications.specs.Steps.{SentValue, StepValue, Refuses, Gives, ApplicationValue}
 use Rattle.books.specs.Values.{ChainValue, LoadValue, opening, sent, EntryValue}
-use Rattle.protocol.specs.Reads.{ApplicationValue}
 
 -- an owner's key is not 0, and no member's
 abbrev pub key_allowed : CommitteeValue → ℕ → Bool

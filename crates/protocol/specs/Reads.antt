@@ -1,5 +1,5 @@
--- What a call is given besides books: seals, an application, and a frame with its block.
-use Rattle.std.specs.Prelude.{ℕ, List, ℤ}
+-- What a call is given besides books and an application: seals, and a frame with its block.
+use Rattle.std.specs.Prelude.{ℕ, List}
 use Rattle.hash.specs.Sha256.{sha256_of}
 use Rattle.format.specs.Values.{DigestValue, BlockValue}
 use Rattle.format.specs.Bytes.{bytes_of}
@@ -7,7 +7,6 @@ use Rattle.format.specs.Outcomes.{Outcome, Passed, ◌>>=◌}
 use Rattle.seals.specs.Meaning.{Holds}
 use Rattle.reading.specs.Blocks.{block_in}
 use Rattle.reading.specs.Frames.{VoteValue, request_in, certificate_in}
-use Rattle.applications.specs.Steps.{StepRule}
 
 -- a scheme of seals: the width of a seal, and the triples of a key, a digest and a seal that it holds
 pub record SealsValue : Type 0 where
@@ -16,16 +15,6 @@ pub record SealsValue : Type 0 where
 
 abbrev pub scheme : ℕ → Holds → SealsValue
 scheme width holds = record { width = width; holds = holds }
-
--- an application: the numbers of a new chain, and the steps
-pub record ApplicationValue : Type 0 where
-  pub start_a : ℤ
-  pub start_b : ℤ
-  pub operation : StepRule
-  pub message : StepRule
-
-abbrev pub application : ℤ → ℤ → StepRule → StepRule → ApplicationValue
-application a b operation message = record { start_a = a; start_b = b; operation = operation; message = message }
 
 -- SHA-256 over the block's bytes alone
 unfoldable pub block_digest : BlockValue → DigestValue

@@ -6,5 +6,5 @@ use Rattle.applications.proofs.running.run_steps.Given as goal
 -- the steps that are left make the tally whole
 abbrev pub invariant-loop-place : goal.invariant-loop-place
 invariant-loop-place g l =
-    tally_from g.A.Application.operation g.A.Application.message (map asked_value (drop l.place l.steps)) l.place l.at.0 l.at.1
-    ≡ tally_from g.A.Application.operation g.A.Application.message (map asked_value l.steps) 0 g.A.Application.start_a g.A.Application.start_b
+    tally_from g.A.Application.meaning (map asked_value (drop l.place l.steps)) l.place l.a l.b
+    ≡ tally_from g.A.Application.meaning (map asked_value l.steps) 0 g.A.Application.meaning.start_a g.A.Application.meaning.start_b

@@ -5,7 +5,7 @@ use Rattle.committee.specs.Meaning.{members_value}
 use Rattle.faults.specs.Refusals.{call_answer, call_refusal}
 use Rattle.reading.specs.Frames.{request_value, request_answer}
 use Rattle.reading.specs.Parts.{read_refusal}
-use Rattle.protocol.specs.Reads.{application, scheme}
+use Rattle.protocol.specs.Reads.{scheme}
 use Rattle.protocol.specs.Calls.{Ends, propose}
 use Rattle.blocks.proofs.Requests.{request_place, frame_refused, frame_read}
 use Rattle.blocks.proofs.proposing.propose.Goals as goal
@@ -13,7 +13,7 @@ use Rattle.blocks.proofs.proposing.propose.Goals as goal
 pub returns-in_err-request : goal.returns-in_err-request
 returns-in_err-request g c =
     let C = members_value c.args.members.now in
-    let A = application g.A.Application.start_a g.A.Application.start_b g.A.Application.operation g.A.Application.message in
+    let A = g.A.Application.meaning in
     let S = scheme g.S.Seals.width (g.S.Seals.holds c.args.seals.now) in
     let m = g.B.Books.meaning c.args.books.now in
     let f = c.args.frame.now in
@@ -35,7 +35,7 @@ propose_request-requires g c =
 pub returns : goal.returns
 returns g c =
     let C = members_value c.args.members.now in
-    let A = application g.A.Application.start_a g.A.Application.start_b g.A.Application.operation g.A.Application.message in
+    let A = g.A.Application.meaning in
     let S = scheme g.S.Seals.width (g.S.Seals.holds c.args.seals.now) in
     let mean = g.B.Books.meaning in
     let f = c.args.frame.now in

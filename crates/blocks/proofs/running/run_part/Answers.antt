@@ -7,4 +7,4 @@ pub run_command-requires : goal.run_command-requires
 run_command-requires g c =
     let part = c.args.part.now in
     let k = known part.byte part.operands.bytes.now (command_value c.in-Some.command) (sym c.in-Some.ensures) in
-    record { within = c.requires.within; few = c.requires.few; byte = sym k.byte_is; index = k.index_is }
+    record { byte = sym k.byte_is; index = k.index_is }

@@ -2,14 +2,13 @@ use Rattle.std.proofs.Common.{Some, sym, refl, ap, ◌∙◌}
 use Rattle.format.specs.Meaning.{identifier_value}
 use Rattle.books.specs.Books.{Rows}
 use Rattle.books.proofs.Changes.{changed_rows}
-use Rattle.protocol.specs.Reads.{application}
 use Rattle.protocol.specs.Calls.{made}
 use Rattle.calls.proofs.Arrivals.{made_there}
 use Rattle.calls.proofs.delivering.arrive.Goals as goal
 
 pub open-requires : goal.open-requires
 open-requires g c =
-    let A = application g.A.Application.start_a g.A.Application.start_b g.A.Application.operation g.A.Application.message in
+    let A = g.A.Application.meaning in
     let m = g.B.Books.meaning c.args.books.now in
     let m' = g.B.Books.meaning c.make_target-target.new.books in
     let t = identifier_value c.args.row.now.target in

@@ -1,13 +1,12 @@
 use Rattle.std.proofs.Common.{sym, ◌∙◌}
 use Rattle.books.specs.Meaning.{counts_value, outgoing_key, outgoing_value}
 use Rattle.format.specs.Meaning.{name_value}
-use Rattle.protocol.specs.Reads.{application}
 use Rattle.calls.proofs.Arrivals.{placed, delivered}
 use Rattle.calls.proofs.delivering.deliver.Goals as goal
 
 pub arrive-requires : goal.arrive-requires
 arrive-requires g c =
-    let A = application g.A.Application.start_a g.A.Application.start_b g.A.Application.operation g.A.Application.message in
+    let A = g.A.Application.meaning in
     let m = g.B.Books.meaning c.args.books.now in
     let row = c.in-Some.row in
     record {
@@ -18,7 +17,7 @@ arrive-requires g c =
 
 pub returns : goal.returns
 returns g c =
-    let A = application g.A.Application.start_a g.A.Application.start_b g.A.Application.operation g.A.Application.message in
+    let A = g.A.Application.meaning in
     let mean = g.B.Books.meaning in
     let m = mean c.args.books.now in
     let row = c.in-Some.row in

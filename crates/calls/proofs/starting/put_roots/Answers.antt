@@ -1,12 +1,11 @@
 use Rattle.std.proofs.Common.{◌∙◌}
 use Rattle.books.specs.Meaning.{record_key, record_value}
-use Rattle.protocol.specs.Reads.{application}
 use Rattle.calls.proofs.Roots.{root_put, root_and_rest, all_put}
 use Rattle.calls.proofs.starting.put_roots.Goals as goal
 
 pub loop-place-preserved : goal.loop-place-preserved
 loop-place-preserved g c =
-    let A = application g.A.Application.start_a g.A.Application.start_b g.A.Application.operation g.A.Application.message in
+    let A = g.A.Application.meaning in
     let mean = g.B.Books.meaning in
     let m = mean c.loop-place.books in
     let m' = mean c.put_record.new.self in
@@ -23,7 +22,7 @@ loop-place-preserved g c =
 
 pub returns : goal.returns
 returns g c =
-    let A = application g.A.Application.start_a g.A.Application.start_b g.A.Application.operation g.A.Application.message in
+    let A = g.A.Application.meaning in
     let m = g.B.Books.meaning c.loop-place.books in
     record {
       change = c.loop-place.invariant.0 m (all_put A m c.args.roots.now c.loop-place.place c.loop-place-test.false);

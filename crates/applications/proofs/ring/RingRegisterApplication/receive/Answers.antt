@@ -1,0 +1,11 @@
+use Rattle.std.proofs.Common.{arith}
+use Rattle.std.proofs.lemmas.Bool.Decides.{nat_tests}
+use Rattle.applications.specs.declared.ring.RingMessage.TheVariants.{Recorded}
+use Rattle.applications.proofs.ring.RingRegisterApplication.receive.Goals as goal
+
+-- none of the codes
+pub returns-in_err-try_from : goal.returns-in_err-try_from
+returns-in_err-try_from c =
+    let no = c.in_err-try_from.ensures.1 in
+    let n1 = no Recorded in
+    grind (arith, nat_tests)

@@ -1,0 +1,12 @@
+use Rattle.std.proofs.Common.{arith}
+use Rattle.std.proofs.lemmas.Bool.Decides.{nat_tests}
+use Rattle.applications.specs.declared.stock.StockMessage.TheVariants.{Delivery, Order}
+use Rattle.applications.proofs.stock.SegmentStockApplication.receive.Goals as goal
+
+-- none of the codes
+pub returns-in_err-try_from : goal.returns-in_err-try_from
+returns-in_err-try_from c =
+    let no = c.in_err-try_from.ensures.1 in
+    let n1 = no Delivery in
+    let n2 = no Order in
+    grind (arith, nat_tests)
