@@ -7,12 +7,16 @@ ghost use Rattle.hex_text.specs.Hex.{from_hex};
 
 use std::alloc::{AllocError, AllocFailed, Global};
 use std::fmt;
+use thiserror::Error;
 
 /// Why a text gives no bytes.
-#[derive(Drop)]
+#[derive(Debug, Drop, Error)]
 pub enum HexError {
+    #[error("a digit is not hexadecimal")]
     NoDigit,
+    #[error("the count of digits is odd")]
     Odd,
+    #[error("out of memory")]
     NoMemory,
 }
 
@@ -31,10 +35,8 @@ impl<T: Drop> From<AllocFailed<T>> for HexError {
 fn digit(c: u8) -> Result<u8, HexError>
     ensures { IfOk result (λ d. (d < 16) × (d ≡ digit_value c)) }
 {
-    match (c as char).to_digit(16) {
-        Some(d) => Ok(d as u8),
-        None => Err(HexError::NoDigit),
-    }
+    let digit = char::from(c).to_digit(16).ok_or(HexError::NoDigit)?;
+    Ok(digit as u8)
 }
 
 /// The bytes that a text writes.
@@ -46,9 +48,9 @@ pub fn bytes_of(heap: Global, text: &str) -> Result<Vec<u8>, HexError>
         return Err(HexError::Odd);
     }
     let mut bytes = Vec::new(heap);
-    for pair in pairs {
-        let high = digit(pair[0])?;
-        let low = digit(pair[1])?;
+    for [high, low] in pairs {
+        let high = digit(*high)?;
+        let low = digit(*low)?;
         bytes.push(16 * high + low)?;
     }
     Ok(bytes)

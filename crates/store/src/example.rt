@@ -1,12 +1,12 @@
 //! A few rows put into one of each make of books.
-use crate::lines::{MarkLine, OutgoingLine, RecordLine};
 use crate::show::{show_free, show_mark, show_outgoing, show_record, show_waiting};
-use books::{Books, Load, Mark, Outgoing, Record, Sign};
+use books::{Books, Load, Mark, Outgoing, Record};
 use format::layout::DIGEST_LEN;
 use format::{Digest, Height, Identifier, Key, Message, Name};
 use image::Image;
 use slots::layout::SLOT_LEN;
 use split::Split;
+use std::fmt::Display;
 use tables::Tables;
 
 // The chain of two numbers.
@@ -26,6 +26,10 @@ fn name(sender: Identifier, height: u16, index: u8) -> Name {
         height: Height(height),
         index,
     }
+}
+
+fn message(name: Name, code: u8, value: i64) -> Message {
+    Message { name, code, value }
 }
 
 fn records() -> [Record; 4] {
@@ -62,33 +66,15 @@ fn records() -> [Record; 4] {
 
 fn marks() -> [Mark; 3] {
     [
-        Mark {
-            target: Identifier::root(0),
-            message: Message {
-                name: name(Identifier::root(1), 65_534, 15),
-                code: 1,
-                value: -500,
-            },
-            sign: Sign::Plus,
-        },
-        Mark {
-            target: Identifier::root(1),
-            message: Message {
-                name: name(child(2, 7), 0, 0),
-                code: 2,
-                value: 40,
-            },
-            sign: Sign::Minus,
-        },
-        Mark {
-            target: child(2, 7),
-            message: Message {
-                name: name(Identifier::root(2), 8, 1),
-                code: 255,
-                value: 0,
-            },
-            sign: Sign::Minus,
-        },
+        Mark::plus(
+            Identifier::root(0),
+            message(name(Identifier::root(1), 65_534, 15), 1, -500),
+        ),
+        Mark::minus(Identifier::root(1), message(name(child(2, 7), 0, 0), 2, 40)),
+        Mark::minus(
+            child(2, 7),
+            message(name(Identifier::root(2), 8, 1), 255, 0),
+        ),
     ]
 }
 
@@ -118,21 +104,23 @@ fn outgoing() -> [Outgoing; 3] {
     ]
 }
 
+// Says of a row that it did not go in.
+fn report<R: Display>(rt: &HostRuntime, row: &R, went_in: bool) -> anyhow::Result<()> {
+    if !went_in {
+        println!(rt; "no place for {row}")?;
+    }
+    Ok(())
+}
+
 fn put<B: Books>(rt: &HostRuntime, books: &mut B) -> anyhow::Result<()> {
     for row in records() {
-        if !books.put_record(row) {
-            println!(rt; "no place for {}", RecordLine(row))?;
-        }
+        report(rt, &row, books.put_record(row))?;
     }
     for row in marks() {
-        if !books.put_mark(row) {
-            println!(rt; "no place for {}", MarkLine(row))?;
-        }
+        report(rt, &row, books.put_mark(row))?;
     }
     for row in outgoing() {
-        if !books.put_outgoing(row) {
-            println!(rt; "no place for {}", OutgoingLine(row))?;
-        }
+        report(rt, &row, books.put_outgoing(row))?;
     }
     Ok(())
 }

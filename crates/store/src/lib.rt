@@ -2,9 +2,7 @@
 #![tactic(auto)]
 
 mod example;
-mod lines;
 mod show;
 
 pub use example::show_examples;
-pub use lines::{Dotted, MarkLine, OutgoingLine, RecordLine};
 pub use show::{show_free, show_mark, show_outgoing, show_record, show_waiting};

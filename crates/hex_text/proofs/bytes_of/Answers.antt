@@ -13,15 +13,15 @@ one_more : (pairs : List (List ℕ)) (i h l : ℕ) (bytes : List ℕ) → i < le
 one_more pairs i h l bytes lt eh el b =
     b ∙ ap₂ (λ x y. map byte_of (take i pairs) ++ (16 * x + y) ∷ []) eh el ∙ sym (map_more byte_of pairs i [] lt)
 
-pub loop-pair-preserved : goal.loop-pair-preserved
-loop-pair-preserved c =
-    one_more c.as_chunks.result.0.now c.loop-pair.pair-index c.in_ok-high.high c.in_ok-low.low
+pub loop-high-preserved : goal.loop-high-preserved
+loop-high-preserved c =
+    one_more c.as_chunks.result.0.now c.loop-high.high-index c.in_ok-high.high c.in_ok-low.low
     (vec_items c.push.new.self) (omega arith) c.in_ok-high.ensures.1 c.in_ok-low.ensures.1
-    (pushed {r = c.push.result} ((16 * c.in_ok-high.high + c.in_ok-low.low) ∷ []) c.loop-pair.invariant c.in_ok-push.was c.push.ensures.items)
+    (pushed {r = c.push.result} ((16 * c.in_ok-high.high + c.in_ok-low.low) ∷ []) c.loop-high.invariant c.in_ok-push.was c.push.ensures.items)
 
 pub returns : goal.returns
 returns c =
-    c.loop-pair.invariant
+    c.loop-high.invariant
     ∙ ap (map byte_of)
-    (take_all c.loop-pair.pair-index c.as_chunks.result.0.now (omega arith) ∙ c.as_chunks.ensures.front
+    (take_all c.loop-high.high-index c.as_chunks.result.0.now (omega arith) ∙ c.as_chunks.ensures.front
     ∙ ap (λ t. first_chunks 2 (length t / 2) t) c.as_bytes.ensures.value)
