@@ -4,10 +4,10 @@ ghost use Rattle.format.specs.Meaning.{block_value};
 ghost use Rattle.member.specs.Encoding.{Encodes};
 
 use crate::request::{Draft, Request, RequestFault, read_line};
-use crate::show::{Dotted, Offset, Words};
+use crate::show::Offset;
 use crate::{frames, tally};
 use format::layout::MAX_BLOCK_LEN;
-use format::{Block, Command, ComposeFault, Digest, Identifier, compose};
+use format::{Block, Command, ComposeFault, Digest, Identifier, Refusal, compose};
 use hex_text::Hex;
 use seals::{Seals, Secret, Tags};
 
@@ -40,22 +40,20 @@ fn show_block(rt: &HostRuntime, draft: &Draft) -> anyhow::Result<()> {
         Ok(Encoded { len, digest }) => {
             let bytes = Hex(buffer.get(0..len).unwrap_or(&[]));
             println!(rt; "  block of {len} bytes: {bytes}")?;
-            println!(rt; "  digest: {}", Hex(&digest.bytes))?;
+            println!(rt; "  digest: {digest}")?;
         }
         Err(fault) => {
-            let number = fault.refusal().number;
-            println!(rt; "  refused, number {number}: {}", Words(fault))?;
+            let number = Refusal::from(fault).number;
+            println!(rt; "  refused, number {number}: {fault}")?;
         }
     }
     Ok(())
 }
 
 fn show_rings(rt: &HostRuntime, draft: &Draft, target: &Identifier) -> anyhow::Result<()> {
-    let chain = Dotted(&draft.chain);
-    let height = draft.height.0;
     println!(rt;
-        "Ring records of chain {chain}, block {height}, sent on to chain {}:",
-        Dotted(target)
+        "Ring records of chain {}, block {}, sent on to chain {target}:",
+        draft.chain, draft.height
     )?;
     for command in &draft.commands {
         if let Command::Execute { argument, .. } = command {
@@ -66,10 +64,10 @@ fn show_rings(rt: &HostRuntime, draft: &Draft, target: &Identifier) -> anyhow::R
 }
 
 fn show_commands(rt: &HostRuntime, draft: &Draft) -> anyhow::Result<()> {
-    let chain = Dotted(&draft.chain);
-    let height = draft.height.0;
     println!(rt;
-        "Block {height} of chain {chain}, commands: {}",
+        "Block {} of chain {}, commands: {}",
+        draft.height,
+        draft.chain,
         draft.commands.len()
     )?;
     show_block(rt, draft)
@@ -77,18 +75,15 @@ fn show_commands(rt: &HostRuntime, draft: &Draft) -> anyhow::Result<()> {
 
 // Whether the scheme holds the tag, with this one secret in its book.
 fn show_tag(rt: &HostRuntime, secret: Secret, digest: &Digest, seal: &[u8]) -> anyhow::Result<()> {
-    let key = secret.key.0;
+    let key = secret.key;
     let book = [secret];
     let tags = Tags { book: &book };
-    let word = if tags.verify(secret.key, digest, seal) {
+    let word = if tags.verify(key, digest, seal) {
         "right"
     } else {
         "wrong"
     };
-    println!(rt;
-        "The tag of key {key:08x} over digest {} is {word}",
-        Hex(&digest.bytes)
-    )?;
+    println!(rt; "The tag of key {key} over digest {digest} is {word}")?;
     Ok(())
 }
 
@@ -98,16 +93,7 @@ pub(crate) fn answer(rt: &HostRuntime, number: u64, line: &str) -> anyhow::Resul
         Ok(Request::Nothing) => Ok(()),
         Ok(Request::Rings { draft, target }) => show_rings(rt, &draft, &target),
         Ok(Request::Compose { draft }) => show_commands(rt, &draft),
-        Ok(Request::ShowRequest(framed)) => frames::request(
-            rt,
-            framed.scheme,
-            framed.frame.as_slice(),
-        ),
-        Ok(Request::ShowCertificate(framed)) => frames::certificate(
-            rt,
-            framed.scheme,
-            framed.frame.as_slice(),
-        ),
+        Ok(Request::ShowFrame(framed)) => frames::show(rt, &framed),
         Ok(Request::TallyRings { steps }) => tally::rings(rt, steps.as_slice()),
         Ok(Request::TallyStock { steps }) => tally::stock(rt, steps.as_slice()),
         Ok(

@@ -1,12 +1,13 @@
 //! Showing what is in a frame.
-use crate::show::{CommandWords, Dotted, ReadWords};
-use format::layout::MAX_COMMANDS;
+use crate::show::CommandWords;
+use format::Refusal;
 use hex_text::Hex;
 use reading::{
     Certificate, Cursor, Head, MAX_SEALS, Part, ReadFault, read_block, read_certificate,
     read_request,
 };
 use seals::{CheckedList, Seals, Tags};
+use std::fmt;
 
 /// A scheme of seals, by which a frame is read.
 #[derive(Clone, Copy)]
@@ -15,32 +16,57 @@ pub enum Scheme {
     List,
 }
 
+/// What a frame is.
+#[derive(Clone, Copy)]
+pub enum Kind {
+    Request,
+    Certificate,
+}
+
+impl fmt::Display for Kind {
+    fn fmt<W: fmt::Write>(&self, f: &mut fmt::Formatter<W>) -> fmt::Result {
+        f.write_str(match self {
+            Kind::Request => "Request",
+            Kind::Certificate => "Certificate",
+        })
+    }
+}
+
+/// A frame, what it is, and the scheme to read it by.
+#[derive(Drop)]
+pub struct Framed {
+    pub kind: Kind,
+    pub scheme: Scheme,
+    pub frame: Vec<u8>,
+}
+
 fn show_fault(rt: &HostRuntime, fault: ReadFault) -> anyhow::Result<()> {
-    let number = fault.refusal().number;
-    println!(rt; "  refused, number {number}: {}", ReadWords(fault))?;
+    let number = Refusal::from(fault).number;
+    println!(rt; "  refused, number {number}: {fault}")?;
     Ok(())
 }
 
-fn show_commands(rt: &HostRuntime, mut cursor: Cursor) -> anyhow::Result<()> {
-    for place in 0..MAX_COMMANDS {
-        if let Ok(Some(command)) = cursor.next() {
-            let at = command.operands.at;
-            if let Some(value) = command.value() {
-                println!(rt;
-                    "  command {place}, operands at {at}: {}",
-                    CommandWords(value)
-                )?;
-            }
+fn show_commands(rt: &HostRuntime, mut cursor: Cursor, head: &Head) -> anyhow::Result<()> {
+    for place in 0..head.count {
+        let Ok(Some(command)) = cursor.next() else {
+            return Ok(());
+        };
+        if let Some(value) = command.value() {
+            println!(rt;
+                "  command {place}, operands at {}: {}",
+                command.operands.at,
+                CommandWords(value)
+            )?;
         }
     }
     Ok(())
 }
 
 fn show_head(rt: &HostRuntime, head: &Head, at: usize) -> anyhow::Result<()> {
-    let chain = Dotted(&head.chain);
-    let height = head.height.0;
-    let count = head.count;
-    println!(rt; "  block {height} of chain {chain}, at {at}, commands: {count}")?;
+    println!(rt;
+        "  block {} of chain {}, at {at}, commands: {}",
+        head.height, head.chain, head.count
+    )?;
     Ok(())
 }
 
@@ -49,7 +75,7 @@ fn show_block(rt: &HostRuntime, block: Part) -> anyhow::Result<bool> {
     match read_block(block) {
         Ok(head) => {
             show_head(rt, &head, block.at)?;
-            show_commands(rt, Cursor::new(block, head.count))?;
+            show_commands(rt, Cursor::new(block, head.count), &head)?;
             Ok(true)
         }
         Err(fault) => {
@@ -59,22 +85,17 @@ fn show_block(rt: &HostRuntime, block: Part) -> anyhow::Result<bool> {
     }
 }
 
-fn show_seal(rt: &HostRuntime, seal: Part) -> anyhow::Result<()> {
-    let at = seal.at;
-    println!(rt; "  the owner's seal, at {at}: {}", Hex(seal.bytes))?;
-    Ok(())
-}
-
 fn show_votes(rt: &HostRuntime, certificate: &Certificate) -> anyhow::Result<()> {
-    for place in 0..MAX_SEALS as usize {
-        if let Some(vote) = certificate.vote(place) {
-            let member = vote.member;
-            let at = vote.seal.at;
-            println!(rt;
-                "  member {member}'s seal, at {at}: {}",
-                Hex(vote.seal.bytes)
-            )?;
-        }
+    for place in 0..usize::from(MAX_SEALS) {
+        let Some(vote) = certificate.vote(place) else {
+            return Ok(());
+        };
+        println!(rt;
+            "  member {}'s seal, at {}: {}",
+            vote.member,
+            vote.seal.at,
+            Hex(vote.seal.bytes)
+        )?;
     }
     Ok(())
 }
@@ -83,7 +104,8 @@ fn show_request<S: Seals>(rt: &HostRuntime, frame: &[u8]) -> anyhow::Result<()> 
     match read_request::<S>(frame) {
         Ok(request) => {
             if show_block(rt, request.block)? {
-                show_seal(rt, request.seal)?;
+                let seal = request.seal;
+                println!(rt; "  the owner's seal, at {}: {}", seal.at, Hex(seal.bytes))?;
             }
             Ok(())
         }
@@ -103,20 +125,19 @@ fn show_certificate<S: Seals>(rt: &HostRuntime, frame: &[u8]) -> anyhow::Result<
     }
 }
 
-/// What is in a request.
-pub(crate) fn request(rt: &HostRuntime, scheme: Scheme, frame: &[u8]) -> anyhow::Result<()> {
-    println!(rt; "Request of {} bytes:", frame.len())?;
-    match scheme {
-        Scheme::Tag => show_request::<Tags>(rt, frame),
-        Scheme::List => show_request::<CheckedList>(rt, frame),
+fn show_by<S: Seals>(rt: &HostRuntime, kind: Kind, frame: &[u8]) -> anyhow::Result<()> {
+    println!(rt; "{kind} of {} bytes:", frame.len())?;
+    match kind {
+        Kind::Request => show_request::<S>(rt, frame),
+        Kind::Certificate => show_certificate::<S>(rt, frame),
     }
 }
 
-/// What is in a certificate.
-pub(crate) fn certificate(rt: &HostRuntime, scheme: Scheme, frame: &[u8]) -> anyhow::Result<()> {
-    println!(rt; "Certificate of {} bytes:", frame.len())?;
-    match scheme {
-        Scheme::Tag => show_certificate::<Tags>(rt, frame),
-        Scheme::List => show_certificate::<CheckedList>(rt, frame),
+/// What is in a frame.
+pub(crate) fn show(rt: &HostRuntime, framed: &Framed) -> anyhow::Result<()> {
+    let frame = framed.frame.as_slice();
+    match framed.scheme {
+        Scheme::Tag => show_by::<Tags>(rt, framed.kind, frame),
+        Scheme::List => show_by::<CheckedList>(rt, framed.kind, frame),
     }
 }

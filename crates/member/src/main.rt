@@ -27,9 +27,7 @@ fn run(rt: &HostRuntime) -> anyhow::Result<()> {
     if !line.is_empty() {
         return answer::answer(rt, 1, line.as_str());
     }
-    let mut number: u64 = 0;
-    for line in rt.lines(rt.alloc()) {
-        number = number.saturating_add(1);
+    for (number, line) in (1..u64::MAX).zip(rt.lines(rt.alloc())) {
         answer::answer(rt, number, line?.as_str())?;
     }
     Ok(())

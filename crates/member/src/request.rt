@@ -1,17 +1,13 @@
 //! Requests from lines of text.
-use crate::frames::Scheme;
+use crate::frames::{Framed, Kind, Scheme};
 use crate::parse;
 use crate::parse::ParseFault;
-use crate::tally::Asked;
+use applications::{Asked, RingOperation};
 use format::{Command, Digest, Height, Identifier};
 use seals::Secret;
-use std::alloc::{AllocError, AllocFailed, Global};
+use std::alloc::{AllocError, Global};
 use std::fs;
-
-// The operation of the ring register that counts a ring and sends it on to the target.
-const RECORD_AND_SEND: u8 = 1;
-// The one that only counts it.
-const RECORD_ONLY: u8 = 2;
+use thiserror::Error;
 
 /// A block's values, with the commands on the heap.
 #[derive(Drop)]
@@ -20,13 +16,6 @@ pub struct Draft {
     pub height: Height,
     pub previous: Digest,
     pub commands: Vec<Command>,
-}
-
-/// A frame, and the scheme to read it by.
-#[derive(Drop)]
-pub struct Framed {
-    pub scheme: Scheme,
-    pub frame: Vec<u8>,
 }
 
 /// What a line asks for.
@@ -43,10 +32,8 @@ pub enum Request {
     Compose {
         draft: Draft,
     },
-    /// What is in a request frame.
-    ShowRequest(Framed),
-    /// What is in a certificate frame.
-    ShowCertificate(Framed),
+    /// What is in a frame.
+    ShowFrame(Framed),
     /// The tally of ring records.
     TallyRings {
         steps: Vec<Asked>,
@@ -64,28 +51,12 @@ pub enum Request {
 }
 
 /// Why a line gives no request.
-#[derive(Drop)]
+#[derive(Debug, Drop, Error)]
 pub enum RequestFault {
-    NotUnderstood(ParseFault),
-    Memory(AllocError),
-}
-
-impl From<ParseFault> for RequestFault {
-    fn from(fault: ParseFault) -> RequestFault {
-        RequestFault::NotUnderstood(fault)
-    }
-}
-
-impl From<AllocError> for RequestFault {
-    fn from(fault: AllocError) -> RequestFault {
-        RequestFault::Memory(fault)
-    }
-}
-
-impl<T: Drop> From<AllocFailed<T>> for RequestFault {
-    fn from(fault: AllocFailed<T>) -> RequestFault {
-        RequestFault::Memory(fault.into())
-    }
+    #[error(transparent)]
+    NotUnderstood(#[from] ParseFault),
+    #[error(transparent)]
+    Memory(#[from(alloc)] AllocError),
 }
 
 fn head(heap: Global, chain: &str, height: &str, previous: &str) -> Result<Draft, ParseFault> {
@@ -102,7 +73,7 @@ fn rings(mut draft: Draft, target: Identifier, offsets: &[&str]) -> Result<Reque
     for offset in offsets {
         let argument = parse::signed(offset)?;
         draft.commands.push(Command::Execute {
-            code: RECORD_AND_SEND,
+            code: RingOperation::RecordAndSend.into(),
             argument,
             target,
         })?;
@@ -128,7 +99,7 @@ fn offsets(heap: Global, words: &[&str]) -> Result<Vec<Asked>, RequestFault> {
     let mut steps = Vec::new(heap);
     for word in words {
         steps.push(Asked::Operation {
-            code: RECORD_ONLY,
+            code: RingOperation::RecordOnly.into(),
             value: parse::signed(word)?,
         })?;
     }
@@ -143,11 +114,9 @@ fn stock_steps(heap: Global, words: &[&str]) -> Result<Vec<Asked>, RequestFault>
     Ok(steps)
 }
 
-fn seal_bytes(heap: Global, word: &str) -> Result<Vec<u8>, RequestFault> {
-    match hex_text::bytes_of(heap, word) {
-        Ok(bytes) => Ok(bytes),
-        Err(_) => Err(RequestFault::NotUnderstood(ParseFault::Seal)),
-    }
+// Bytes in hexadecimal, or the fault where they are not.
+fn hex_bytes(heap: Global, word: &str, fault: ParseFault) -> Result<Vec<u8>, ParseFault> {
+    hex_text::bytes_of(heap, word).map_err(|_| fault)
 }
 
 fn scheme(word: &str) -> Result<Scheme, ParseFault> {
@@ -159,22 +128,16 @@ fn scheme(word: &str) -> Result<Scheme, ParseFault> {
 }
 
 // A frame in hexadecimal, or in the file that is named behind `@`.
-fn frame_bytes(rt: &HostRuntime, word: &str) -> Result<Vec<u8>, RequestFault> {
-    if let Some(path) = word.strip_prefix('@') {
-        return match fs::read(rt, path) {
-            Ok(bytes) => Ok(bytes),
-            Err(_) => Err(RequestFault::NotUnderstood(ParseFault::File)),
-        };
-    }
-    match hex_text::bytes_of(rt.alloc(), word) {
-        Ok(bytes) => Ok(bytes),
-        Err(_) => Err(RequestFault::NotUnderstood(ParseFault::Frame)),
+fn frame_bytes(rt: &HostRuntime, word: &str) -> Result<Vec<u8>, ParseFault> {
+    match word.strip_prefix('@') {
+        Some(path) => fs::read(rt, path).map_err(|_| ParseFault::File),
+        None => hex_bytes(rt.alloc(), word, ParseFault::Frame),
     }
 }
 
 fn ring_block(heap: Global, words: &[&str]) -> Result<Request, RequestFault> {
     let [chain, height, previous, target, offsets @ ..] = words else {
-        return Err(RequestFault::NotUnderstood(ParseFault::Missing));
+        return Err(ParseFault::Missing.into());
     };
     let target = parse::identifier(target)?;
     rings(head(heap, chain, height, previous)?, target, offsets)
@@ -182,24 +145,25 @@ fn ring_block(heap: Global, words: &[&str]) -> Result<Request, RequestFault> {
 
 fn any_block(heap: Global, words: &[&str]) -> Result<Request, RequestFault> {
     let [chain, height, previous, words @ ..] = words else {
-        return Err(RequestFault::NotUnderstood(ParseFault::Missing));
+        return Err(ParseFault::Missing.into());
     };
     commands(heap, head(heap, chain, height, previous)?, words)
 }
 
-fn read_frame(rt: &HostRuntime, words: &[&str]) -> Result<Framed, RequestFault> {
+fn read_frame(rt: &HostRuntime, kind: Kind, words: &[&str]) -> Result<Request, RequestFault> {
     let [word, frame] = words else {
-        return Err(RequestFault::NotUnderstood(ParseFault::Missing));
+        return Err(ParseFault::Missing.into());
     };
-    Ok(Framed {
+    Ok(Request::ShowFrame(Framed {
+        kind,
         scheme: scheme(word)?,
         frame: frame_bytes(rt, frame)?,
-    })
+    }))
 }
 
 fn tag(heap: Global, words: &[&str]) -> Result<Request, RequestFault> {
     let [key, secret, digest, seal] = words else {
-        return Err(RequestFault::NotUnderstood(ParseFault::Missing));
+        return Err(ParseFault::Missing.into());
     };
     Ok(Request::CheckTag {
         secret: Secret {
@@ -207,7 +171,7 @@ fn tag(heap: Global, words: &[&str]) -> Result<Request, RequestFault> {
             secret: parse::secret(secret)?,
         },
         digest: parse::digest(digest)?,
-        seal: seal_bytes(heap, seal)?,
+        seal: hex_bytes(heap, seal, ParseFault::Seal)?,
     })
 }
 
@@ -216,8 +180,8 @@ fn by_word(rt: &HostRuntime, first: &str, words: &[&str]) -> Result<Request, Req
     match first {
         "ring" => ring_block(heap, words),
         "compose" => any_block(heap, words),
-        "request" => Ok(Request::ShowRequest(read_frame(rt, words)?)),
-        "certificate" => Ok(Request::ShowCertificate(read_frame(rt, words)?)),
+        "request" => read_frame(rt, Kind::Request, words),
+        "certificate" => read_frame(rt, Kind::Certificate, words),
         "tally" => Ok(Request::TallyRings {
             steps: offsets(heap, words)?,
         }),
@@ -225,7 +189,7 @@ fn by_word(rt: &HostRuntime, first: &str, words: &[&str]) -> Result<Request, Req
             steps: stock_steps(heap, words)?,
         }),
         "tag" => tag(heap, words),
-        _ => Err(RequestFault::NotUnderstood(ParseFault::Word)),
+        _ => Err(ParseFault::Word.into()),
     }
 }
 

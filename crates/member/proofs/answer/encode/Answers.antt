@@ -14,4 +14,4 @@ returns c =
     let n = composed_length b _ c.in_ok-len.len (sym done.answer) in
     let front : take c.in_ok-len.len c.compose.new.destination ≡ bytes_of b = ap (take c.in_ok-len.len) done.left ∙ take_at (bytes_of b) _ c.in_ok-len.len n in
     let part = ap (λ k. take k c.compose.new.destination) (sub-zero c.in_ok-len.len) in
-    (sym done.answer, front, c.of-digest.ensures ∙ ap sha256_of (part ∙ front))
+    (sym done.answer, front, c.of-digest.ensures.value ∙ ap sha256_of (part ∙ front))
