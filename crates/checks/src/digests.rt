@@ -19,13 +19,10 @@ impl Example for DigestExample {
     }
 
     fn holds(&self, heap: Global) -> bool {
-        match hex_text::bytes_of(heap, self.digest) {
-            Ok(digest) => {
-                let computed = hash::sha256(self.message.as_bytes());
-                digest.as_slice() == computed.as_slice()
-            }
-            Err(_) => false,
-        }
+        let Ok(digest) = hex_text::bytes_of(heap, self.digest) else {
+            return false;
+        };
+        digest.as_slice() == hash::sha256(self.message.as_bytes()).as_slice()
     }
 }
 

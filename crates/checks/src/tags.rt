@@ -39,10 +39,7 @@ impl Example for TagExample {
     }
 
     fn holds(&self, heap: Global) -> bool {
-        match self.agrees(heap) {
-            Ok(same) => same,
-            Err(_) => false,
-        }
+        self.agrees(heap).unwrap_or(false)
     }
 }
 

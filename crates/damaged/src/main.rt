@@ -3,7 +3,7 @@
 #![tactic(auto)]
 
 use anyhow::anyhow;
-use format::layout::MAX_COMMANDS;
+use format::Refusal;
 use reading::{
     Cursor, Head, MAX_SEALS, Part, ReadFault, read_block, read_certificate, read_request,
 };
@@ -26,35 +26,36 @@ fn of_request<'a, S: Seals>(frame: &'a [u8]) -> Result<Content<'a>, ReadFault> {
 
 fn of_certificate<'a, S: Seals>(frame: &'a [u8]) -> Result<Content<'a>, ReadFault> {
     let certificate = read_certificate::<S>(frame)?;
-    let mut seals = 0usize;
-    for place in 0..MAX_SEALS as usize {
-        if certificate.vote(place).is_some() {
-            seals = place + 1;
-        }
-    }
+    let seals = (0..usize::from(MAX_SEALS))
+        .filter(|place| certificate.vote(*place).is_some())
+        .count();
     Ok(Content {
         block: certificate.block,
         seals,
     })
 }
 
+fn read_by<'a, S: Seals>(kind: &str, frame: &'a [u8]) -> Result<Content<'a>, ReadFault> {
+    match kind {
+        "request" => of_request::<S>(frame),
+        _ => of_certificate::<S>(frame),
+    }
+}
+
 fn read_frame<'a>(kind: &str, scheme: &str, frame: &'a [u8]) -> Result<Content<'a>, ReadFault> {
-    match (kind, scheme) {
-        ("request", "list") => of_request::<CheckedList>(frame),
-        ("request", _) => of_request::<Tags>(frame),
-        (_, "list") => of_certificate::<CheckedList>(frame),
-        _ => of_certificate::<Tags>(frame),
+    match scheme {
+        "list" => read_by::<CheckedList>(kind, frame),
+        _ => read_by::<Tags>(kind, frame),
     }
 }
 
 // The byte and the place of the operands of each command.
-fn show_commands(rt: &HostRuntime, mut cursor: Cursor) -> anyhow::Result<()> {
-    for _ in 0..MAX_COMMANDS {
-        if let Ok(Some(command)) = cursor.next() {
-            let byte = command.byte;
-            let at = command.operands.at;
-            print!(rt; " {byte}@{at}")?;
-        }
+fn show_commands(rt: &HostRuntime, mut cursor: Cursor, head: &Head) -> anyhow::Result<()> {
+    for _ in 0..head.count {
+        let Ok(Some(command)) = cursor.next() else {
+            return Ok(());
+        };
+        print!(rt; " {}@{}", command.byte, command.operands.at)?;
     }
     Ok(())
 }
@@ -65,27 +66,31 @@ fn show_content(rt: &HostRuntime, content: Content, head: &Head) -> anyhow::Resu
     for number in head.chain.numbers() {
         print!(rt; " {number}")?;
     }
-    let height = head.height.0;
-    let seals = content.seals;
-    print!(rt; " height {height} seals {seals}")?;
-    show_commands(rt, Cursor::new(content.block, head.count))?;
+    print!(rt; " height {} seals {}", head.height, content.seals)?;
+    show_commands(rt, Cursor::new(content.block, head.count), head)?;
     println!(rt; "")?;
     Ok(())
 }
 
+// What is in a frame, and the head of its block.
+fn read_whole<'a>(
+    kind: &str,
+    scheme: &str,
+    frame: &'a [u8],
+) -> Result<(Content<'a>, Head), ReadFault> {
+    let content = read_frame(kind, scheme, frame)?;
+    Ok((content, read_block(content.block)?))
+}
+
 fn show_frame(rt: &HostRuntime, kind: &str, scheme: &str, frame: &[u8]) -> anyhow::Result<()> {
-    let fault = match read_frame(kind, scheme, frame) {
-        Ok(content) => match read_block(content.block) {
-            Ok(head) => return show_content(rt, content, &head),
-            Err(fault) => fault,
-        },
-        Err(fault) => fault,
-    };
-    let refusal = fault.refusal();
-    let number = refusal.number;
-    let place = refusal.place;
-    println!(rt; "refused {number} {place}")?;
-    Ok(())
+    match read_whole(kind, scheme, frame) {
+        Ok((content, head)) => show_content(rt, content, &head),
+        Err(fault) => {
+            let refusal = Refusal::from(fault);
+            println!(rt; "refused {} {}", refusal.number, refusal.place)?;
+            Ok(())
+        }
+    }
 }
 
 fn run(rt: &HostRuntime) -> anyhow::Result<()> {
@@ -97,10 +102,10 @@ fn run(rt: &HostRuntime) -> anyhow::Result<()> {
             [kind, scheme, text] => (*kind, *scheme, *text),
             _ => return Err(anyhow!("a line has two or three words")),
         };
-        match hex_text::bytes_of(rt.alloc(), text) {
-            Ok(frame) => show_frame(rt, kind, scheme, frame.as_slice())?,
-            Err(_) => return Err(anyhow!("a frame is not in hexadecimal")),
-        }
+        let frame = hex_text::bytes_of(rt.alloc(), text).map_err(|_| anyhow!(
+            "a frame is not in hexadecimal"
+        ))?;
+        show_frame(rt, kind, scheme, frame.as_slice())?;
     }
     Ok(())
 }
