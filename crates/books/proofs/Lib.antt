@@ -4,3 +4,4 @@ pub mod Orders
 pub mod Earliest
 pub mod Changes
 pub mod Listed
+pub mod Signs

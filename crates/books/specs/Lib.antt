@@ -1,7 +1,6 @@
 pub mod Values
 pub mod Counts
 pub mod Same
-pub mod Equivalences
 pub mod Meaning
 pub mod Blanks
 pub mod Sides

@@ -1,16 +1,15 @@
 -- Lists of rows that are looked for by a key.
-use Rattle.std.specs.Prelude.{◌≡◌, ℕ, ◌<◌, Bool, true, false, cond, ◌||◌, List, [], ◌∷◌, length, Some, None, Option, slice_index_or}
+use Rattle.std.specs.Prelude.{◌≡◌, ℕ, ◌<◌, Bool, true, false, List, length, Option, slice_index_or}
+use Rattle.std.specs.List.{list_any, find as first_that}
 
 -- whether a test holds of some row
 abbrev pub any : {R : Type 0} → (R → Bool) → List R → Bool
-any test [] = false
-any test (x ∷ xs) = test x || any test xs
+any = list_any
 
 module _ {R K : Type 0} (key : R → K) (same : K → K → Bool) where
   -- the first row that has the key
   abbrev pub find : List R → K → Option R
-  find [] k = None
-  find (r ∷ rs) k = cond (same (key r) k) (Some r) (find rs k)
+  find rs k = first_that (λ r. same (key r) k) rs
 
   -- no row before place n has the key
   abbrev pub Before : List R → K → ℕ → Type 0

@@ -1,30 +1,16 @@
 -- The order in which outgoing rows wait, and the least of them.
-use Rattle.std.specs.Prelude.{◌≡◌, ℕ, Bool, true, false, cond, List, [], ◌∷◌, Some, None, Option, nat_lt}
-use Rattle.std.specs.declared.cmp.Ordering.TheVariants.{Less, Equal, Greater}
+use Rattle.std.specs.Prelude.{◌≡◌, Bool, true, false, cond, List, [], ◌∷◌, Some, None, Option}
 use Rattle.std.specs.declared.cmp.Ordering.{Ordering}
-use Rattle.std.specs.Ordering.{is_lt, ordering_then}
+use Rattle.std.specs.Ordering.{is_lt}
+use Rattle.format.specs.Order.{order_names}
 use Rattle.format.specs.Values.{IdentifierValue, NameValue}
 use Rattle.books.specs.Values.{OutgoingValue, EntryValue}
 use Rattle.books.specs.Meaning.{entry_value}
 use Rattle.books.specs.declared.rows.Outgoing.{Outgoing}
 
-abbrev pub order_numbers : ℕ → ℕ → Ordering
-order_numbers m n = cond (nat_lt m n) Less (cond (nat_lt n m) Greater Equal)
-
--- the first differing number decides; a prefix comes first
-abbrev pub order_identifiers : IdentifierValue → IdentifierValue → Ordering
-order_identifiers [] [] = Equal
-order_identifiers [] (y ∷ ys) = Less
-order_identifiers (x ∷ xs) [] = Greater
-order_identifiers (x ∷ xs) (y ∷ ys) = ordering_then (order_numbers x y) (order_identifiers xs ys)
-
 -- sender height, then sender identifier, then index
 abbrev pub order : EntryValue → EntryValue → Ordering
-order x y =
-    ordering_then (ordering_then
-    (order_numbers x.name.height y.name.height)
-    (order_identifiers x.name.sender y.name.sender))
-    (order_numbers x.name.index y.name.index)
+order x y = order_names x.name y.name
 
 abbrev pub before : EntryValue → EntryValue → Bool
 before x y = is_lt (order x y)

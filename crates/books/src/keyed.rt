@@ -42,22 +42,12 @@ pub trait Keyed {
 pub fn locate<R: Keyed>(rows: &[R], key: &R::Key) -> Option<usize>
     ensures { MatchOption result (Absent R.Keyed.named R.Keyed.same rows.now (R.Keyed.label key.now)) (λ i. Present R.Keyed.named R.Keyed.same rows.now (R.Keyed.label key.now) i) }
 {
-    for (i, row) in rows.iter().enumerate() {
-        if row.has_key(key) {
-            return Some(i);
-        }
-    }
-    None
+    rows.iter().position(|row| row.has_key(key))
 }
 
 /// Whether a row is of a chain on the side.
 pub fn any_on_side<R: Keyed>(rows: &[R], side: Side) -> bool
     ensures { result ≡ any (λ x. on side (R.Keyed.home (R.Keyed.named x))) rows.now }
 {
-    for row in rows {
-        if side.has(&row.chain()) {
-            return true;
-        }
-    }
-    false
+    rows.iter().any(|row| side.has(&row.chain()))
 }

@@ -3,13 +3,13 @@
 
 mod blanks;
 mod books;
-mod equality;
 mod keyed;
 mod keys;
 mod marks;
 mod order;
 mod rows;
 mod side;
+mod text;
 
 pub use books::Books;
 pub use keyed::{Keyed, any_on_side, locate};

@@ -1,12 +1,37 @@
-//! Minus marks of a chain.
+//! Making marks, and looking for minus marks of a chain.
 ghost use Rattle.std.specs.Prelude.{◌≡◌};
-ghost use Rattle.format.specs.Meaning.{identifier_value};
+ghost use Rattle.format.specs.Meaning.{identifier_value, message_value};
 ghost use Rattle.books.specs.Lists.{any};
 ghost use Rattle.books.specs.Meaning.{mark_value};
 ghost use Rattle.books.specs.Same.{minus_of};
+ghost use Rattle.books.specs.Values.{marking, minus, plus};
 
 use crate::rows::{Mark, Sign};
-use format::Identifier;
+use format::{Identifier, Message};
+
+impl Mark {
+    /// The mark of a message that arrived and waits.
+    pub fn plus(target: Identifier, message: Message) -> Mark
+        ensures { mark_value result ≡ marking (identifier_value target) (message_value message) plus }
+    {
+        Mark {
+            target,
+            message,
+            sign: Sign::Plus,
+        }
+    }
+
+    /// The mark of a message that was received before it arrived.
+    pub fn minus(target: Identifier, message: Message) -> Mark
+        ensures { mark_value result ≡ marking (identifier_value target) (message_value message) minus }
+    {
+        Mark {
+            target,
+            message,
+            sign: Sign::Minus,
+        }
+    }
+}
 
 fn is_minus_of(mark: &Mark, chain: &Identifier) -> bool
     ensures { result ≡ minus_of (identifier_value chain.now) (mark_value mark.now) }
@@ -18,10 +43,5 @@ fn is_minus_of(mark: &Mark, chain: &Identifier) -> bool
 pub fn any_minus(marks: &[Mark], chain: &Identifier) -> bool
     ensures { result ≡ any (λ k. minus_of (identifier_value chain.now) (mark_value k)) marks.now }
 {
-    for mark in marks {
-        if is_minus_of(mark, chain) {
-            return true;
-        }
-    }
-    false
+    marks.iter().any(|mark| is_minus_of(mark, chain))
 }

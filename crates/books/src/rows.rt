@@ -2,7 +2,7 @@
 use format::{Digest, Height, Identifier, Key, Message, Name};
 
 /// What books know of a chain.
-#[derive(Clone, Copy)]
+#[derive(Clone, Copy, PartialEq, Eq, Debug)]
 pub struct Record {
     pub identifier: Identifier,
     /// 0 where the chain has no owner.
@@ -19,14 +19,14 @@ pub struct Record {
 
 /// The sign of a mark: plus if its message arrived and waits, minus if it was received before it
 /// arrived.
-#[derive(Clone, Copy)]
+#[derive(Clone, Copy, PartialEq, Eq, Debug)]
 pub enum Sign {
     Plus,
     Minus,
 }
 
 /// A mark: a message to a chain that has arrived or been received, and not both.
-#[derive(Clone, Copy)]
+#[derive(Clone, Copy, PartialEq, Eq, Debug)]
 pub struct Mark {
     pub target: Identifier,
     pub message: Message,
@@ -34,7 +34,7 @@ pub struct Mark {
 }
 
 /// What an outgoing row carries.
-#[derive(Clone, Copy)]
+#[derive(Clone, Copy, PartialEq, Eq, Debug)]
 pub enum Load {
     /// The owner of a new chain.
     Opening { key: Key },
@@ -43,7 +43,7 @@ pub enum Load {
 }
 
 /// An outgoing row: an opening or a message that a block sent, not yet delivered to its target.
-#[derive(Clone, Copy)]
+#[derive(Clone, Copy, PartialEq, Eq, Debug)]
 pub struct Outgoing {
     pub name: Name,
     pub target: Identifier,
@@ -51,9 +51,17 @@ pub struct Outgoing {
 }
 
 /// So many new rows of each kind. What a row needs in books to go in is a place of its kind.
-#[derive(Clone, Copy)]
+#[derive(Clone, Copy, PartialEq, Eq, Debug)]
 pub struct NewRows {
     pub records: usize,
     pub marks: usize,
     pub outgoing: usize,
+}
+
+impl NewRows {
+    pub const NONE: NewRows = NewRows {
+        records: 0,
+        marks: 0,
+        outgoing: 0,
+    };
 }

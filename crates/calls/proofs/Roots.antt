@@ -8,7 +8,7 @@ use Rattle.std.proofs.lemmas.Bool.{and_parts, and_from, or_right, le-leb, leb-tr
 use Rattle.format.specs.Values.{IdentifierValue}
 use Rattle.format.specs.Rules.{zero_digest}
 use Rattle.format.specs.Outcomes.{refusal, Refused, Passed}
-use Rattle.format.specs.declared.values.Key.{Key}
+use Rattle.format.specs.declared.fields.Key.{Key}
 use Rattle.committee.specs.Rules.{CommitteeValue, committee_allowed}
 use Rattle.books.specs.Values.{RecordValue}
 use Rattle.books.specs.Counts.{counts}

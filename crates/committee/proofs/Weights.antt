@@ -4,6 +4,8 @@ use lib.ListN.{length-map}
 use Rattle.std.proofs.lemmas.List.{at_drop_more, at_drop_all, get_or-map}
 use Rattle.std.proofs.lemmas.Bool.{and_parts, and_from, and_left, and_right, cond-true, cond-false, false≢true, leb-true, le-leb, lt-leb, lt-ltb, le-ltb}
 use Rattle.std.specs.Option.{option_map}
+use Rattle.std.specs.List.{sum_by}
+use Rattle.std.proofs.lemmas.List.Recursion.{is_sum_by}
 use Rattle.committee.specs.Rules.{CommitteeValue, max_members, max_weight, member_allowed, members_allowed, committee_allowed}
 use Rattle.committee.specs.Weights.{total_weight, faulty_weight, quorum_weight, faulty_of, quorum_of, nobody, weight_from, QuorumsOverlap}
 use Rattle.committee.specs.Meaning.{member_value, members_value}
@@ -78,3 +80,6 @@ module _ (ms : List Member) (ns : List ℕ) where
           ∙ plus_both sum (get_or (members_value ms) next nobody).weight (get_or ms next no_one).weight
           (ap (λ m. m.weight) (get_or-map member_value ms next no_one nobody l))
           (weight_from (members_value ms) (next + 1) (drop (i + 1) ns))
+
+pub total_of : (ms : List Member) → sum_by (λ m. m.weight) ms ≡ total_weight (members_value ms)
+total_of ms = sym (is_sum_by (λ ms. total_weight (members_value ms)) (λ m. m.weight) refl (λ _ _. refl) ms)

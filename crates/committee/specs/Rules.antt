@@ -1,5 +1,6 @@
 -- The rules of a committee.
-use Rattle.std.specs.Prelude.{ℕ, Bool, true, false, not, ◌&&◌, ◌||◌, List, [], ◌∷◌, length, ◌==◌, nat_le}
+use Rattle.std.specs.Prelude.{ℕ, Bool, true, not, ◌&&◌, List, [], ◌∷◌, length, ◌==◌, nat_le}
+use Rattle.std.specs.List.{list_any}
 
 -- a member's key and weight; members are numbered from 0 by their places
 pub record MemberValue : Type 0 where
@@ -17,8 +18,7 @@ max_weight = 10000
 
 -- some member has this key
 abbrev pub has_key : CommitteeValue → ℕ → Bool
-has_key [] k = false
-has_key (m ∷ ms) k = m.key == k || has_key ms k
+has_key ms k = list_any (λ m. m.key == k) ms
 
 -- a key that is not 0, and a weight from 1 to 10,000
 abbrev pub member_allowed : MemberValue → Bool

@@ -14,7 +14,7 @@ pub const MAX_MEMBERS: usize = 16;
 pub const MAX_WEIGHT: u16 = 10_000;
 
 /// A member by its key and its weight. Its number is its place in the committee.
-#[derive(Clone, Copy)]
+#[derive(Clone, Copy, PartialEq, Eq, Debug)]
 pub struct Member {
     pub key: Key,
     pub weight: u16,
@@ -24,21 +24,15 @@ pub struct Member {
 pub fn is_member_key(members: &[Member], key: Key) -> bool
     ensures { result ≡ has_key (members_value members.now) key.0 }
 {
-    for member in members {
-        if member.key.0 == key.0 {
-            return true;
-        }
-    }
-    false
+    members.iter().any(|member| member.key == key)
 }
 
 // Whether a member keeps the rules, and no later one has its key.
 fn is_allowed(member: Member, later: &[Member]) -> bool
     ensures { result ≡ (member_allowed (member_value member) && not (has_key (members_value later.now) member.key.0)) }
 {
-    member.key.0 != 0
-        && member.weight >= 1
-        && member.weight <= MAX_WEIGHT
+    member.key != Key(0)
+        && (1..=MAX_WEIGHT).contains(&member.weight)
         && !is_member_key(later, member.key)
 }
 
@@ -47,13 +41,15 @@ fn is_allowed(member: Member, later: &[Member]) -> bool
 pub fn is_committee(members: &[Member]) -> bool
     ensures { result ≡ committee_allowed (members_value members.now) }
 {
-    if members.len() < 1 || members.len() > MAX_MEMBERS {
+    if members.is_empty() || members.len() > MAX_MEMBERS {
         return false;
     }
-    for (i, member) in members.iter().enumerate() {
-        if !is_allowed(*member, &members[i + 1..]) {
+    let mut rest = members;
+    while let [member, later @ ..] = rest {
+        if !is_allowed(*member, later) {
             return false;
         }
+        rest = later;
     }
     true
 }
@@ -61,14 +57,9 @@ pub fn is_committee(members: &[Member]) -> bool
 // The sum of the weights.
 fn total(members: &[Member]) -> u32
     requires { length members.now ≤ max_members }
-    ensures value { result ≡ total_weight (members_value members.now) }
-    ensures bound { result ≤ 65535 * length members.now }
+    ensures { result ≡ total_weight (members_value members.now) }
 {
-    let mut sum = 0;
-    for member in members {
-        sum += member.weight as u32;
-    }
-    sum
+    members.iter().map(|member| u32::from(member.weight)).sum()
 }
 
 /// The weight that dishonest members may have together: f = (N - 1) / 3, rounded down, where N is the sum of the weights.
@@ -103,11 +94,11 @@ pub fn weigh(members: &[Member], numbers: &[u8]) -> Option<u32>
     let mut sum: u32 = 0;
     let mut least = 0usize;
     for number in numbers {
-        let number = *number as usize;
+        let number = usize::from(*number);
         if number < least || number >= members.len() {
             return None;
         }
-        sum += members[number].weight as u32;
+        sum += u32::from(members[number].weight);
         least = number + 1;
     }
     Some(sum)

@@ -3,7 +3,7 @@ use Rattle.std.specs.Prelude.{◌≡◌, ℕ, Ok, Err, Result}
 use Rattle.format.specs.Values.{DigestValue}
 use Rattle.format.specs.Meaning.{digest_value}
 use Rattle.format.specs.Outcomes.{RefusalValue, refusal, refusal_at, Outcome, Refused, Passed}
-use Rattle.format.specs.declared.values.Digest.{Digest}
+use Rattle.format.specs.declared.digest.Digest.{Digest}
 use Rattle.applications.specs.declared.application.ApplicationFault.{ApplicationFault}
 use Rattle.reading.specs.Parts.{read_refusal}
 use Rattle.reading.specs.declared.part.ReadFault.{ReadFault}

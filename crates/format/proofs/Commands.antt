@@ -6,7 +6,7 @@ use Rattle.format.specs.Bytes.{command_bytes}
 use Rattle.format.specs.Rules.{command_allowed, commands_allowed}
 use Rattle.format.specs.Meaning.{command_value}
 use Rattle.format.specs.Composing.{encoded}
-use Rattle.format.specs.declared.values.Command.{Command}
+use Rattle.format.specs.declared.block.Command.{Command}
 
 -- whether commands of the code keep their rules
 abbrev pub allowed : List Command → Bool

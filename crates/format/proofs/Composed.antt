@@ -11,7 +11,7 @@ use Rattle.format.specs.Meaning.{command_value, block_value}
 use Rattle.format.specs.Values.{BlockValue}
 use Rattle.format.specs.Writing.{Wrote}
 use Rattle.format.specs.Composing.{encoded, composed}
-use Rattle.format.specs.declared.values.Block.{Block}
+use Rattle.format.specs.declared.block.Block.{Block}
 use Rattle.format.proofs.Commands.{allowed, joined_map}
 use Rattle.format.proofs.Lengths.{length_head, length_commands, few_commands}
 use Rattle.format.proofs.Writes.{wrote_then, wrote_as}

@@ -5,3 +5,4 @@ pub mod Writes
 pub mod Commands
 pub mod Composed
 pub mod Same
+pub mod Order

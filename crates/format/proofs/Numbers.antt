@@ -5,6 +5,7 @@ use Rattle.std.proofs.lemmas.Int.Digits.{number_push, number_lt}
 use Rattle.std.proofs.ByRecursion.{All-get_or, All-take}
 use Rattle.std.proofs.lemmas.List.{nil_from_length, take_all, take_more, length-take-le}
 use Rattle.std.specs.List.{flat_map, AllByRecursion}
+pub use Rattle.hash.proofs.Lists.{map_by_places, chunk_length}
 use Rattle.hash.proofs.Bytes.{word_from_bytes}
 use Rattle.hash.proofs.Lists.{written_out}
 use Rattle.format.specs.Numbers.{to_bytes, from_bytes}

@@ -7,7 +7,7 @@ use Rattle.format.specs.Meaning.{command_value}
 use Rattle.format.specs.Rules.{block_allowed}
 use Rattle.format.specs.Writing.{written}
 use Rattle.format.specs.Outcomes.{RefusalValue, refusal, Outcome, Refused, Passed, ◌>>◌, check}
-use Rattle.format.specs.declared.values.Command.{Command}
+use Rattle.format.specs.declared.block.Command.{Command}
 use Rattle.format.specs.declared.composing.ComposeFault.{ComposeFault}
 use Rattle.format.specs.declared.composing.ComposeFault.TheVariants.{TooShort, OutsideRules}
 

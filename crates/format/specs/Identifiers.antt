@@ -1,12 +1,11 @@
 -- The rule of identifiers: one to four numbers, unused ones zero.
-use Rattle.std.specs.Prelude.{ℕ, ◌^◌, ◌<◌, ◌≤◌, Bool, true, cond, ◌&&◌, List, [], ◌∷◌, ◌++◌, length, take, drop, replicate, Some, None, Option, ◌==◌, nat_le}
-use Rattle.std.specs.List.{AllByRecursion}
+use Rattle.std.specs.Prelude.{ℕ, ◌^◌, ◌<◌, ◌≤◌, Bool, cond, ◌&&◌, List, ◌++◌, length, take, drop, replicate, Some, None, Option, ◌==◌, nat_le}
+use Rattle.std.specs.List.{AllByRecursion, list_all}
 use Rattle.format.specs.Layout.{number_len, max_depth}
 use Rattle.format.specs.Values.{IdentifierValue}
 
 abbrev pub all_zero : List ℕ → Bool
-all_zero [] = true
-all_zero (n ∷ ns) = n == 0 && all_zero ns
+all_zero = list_all (λ n. n == 0)
 
 -- d numbers are used, and those behind them are zero
 abbrev pub well_formed : ℕ → List ℕ → Bool

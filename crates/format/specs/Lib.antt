@@ -9,4 +9,5 @@ pub mod Meaning
 pub mod Writing
 pub mod Composing
 pub mod Same
-pub mod Equivalences
+pub mod Order
+pub mod Fits

@@ -4,12 +4,12 @@ use Rattle.format.specs.Values.{IdentifierValue, DigestValue, NameValue, Message
 use Rattle.format.specs.Outcomes.{RefusalValue}
 use Rattle.format.specs.declared.identifier.Identifier.{Identifier}
 use Rattle.format.specs.declared.refusal.Refusal.{Refusal}
-use Rattle.format.specs.declared.values.Digest.{Digest}
-use Rattle.format.specs.declared.values.Name.{Name}
-use Rattle.format.specs.declared.values.Message.{Message}
-use Rattle.format.specs.declared.values.Command.{Command}
-use Rattle.format.specs.declared.values.Command.TheVariants.{Open, Change, Close, Execute, Receive}
-use Rattle.format.specs.declared.values.Block.{Block}
+use Rattle.format.specs.declared.digest.Digest.{Digest}
+use Rattle.format.specs.declared.message.Name.{Name}
+use Rattle.format.specs.declared.message.Message.{Message}
+use Rattle.format.specs.declared.block.Command.{Command}
+use Rattle.format.specs.declared.block.Command.TheVariants.{Open, Change, Close, Execute, Receive}
+use Rattle.format.specs.declared.block.Block.{Block}
 
 -- the numbers in use
 abbrev pub identifier_value : Identifier → IdentifierValue

@@ -8,35 +8,31 @@ ghost use Rattle.format.specs.Meaning.{block_value, command_value, refusal_value
 ghost use Rattle.format.specs.Rules.{command_allowed, commands_allowed, head_allowed};
 ghost use Rattle.format.specs.Writing.{Wrote};
 
-use crate::fields::value_bytes;
+use crate::block::{Block, Command};
+use crate::digest::Digest;
+use crate::fields::{Height, value_to_bytes};
 use crate::layout;
-use crate::layout::{COMMAND_BYTE_LEN, DIGEST_LEN, HEAD_LEN, MAX_COMMANDS, MAX_HEIGHT, MAX_INDEX};
+use crate::layout::{COMMAND_BYTE_LEN, HEAD_LEN, MAX_COMMANDS, MAX_HEIGHT, MAX_INDEX};
 use crate::refusal::Refusal;
-use crate::values::{Block, Command, Digest, Height};
 use crate::writing::write_at;
+use thiserror::Error;
 
 /// Why a block is not written.
-#[derive(Clone, Copy, PartialEq, Eq, Debug)]
+#[derive(Clone, Copy, PartialEq, Eq, Debug, Error)]
 pub enum ComposeFault {
-    /// The destination is too short for the block.
+    #[error("the destination is too short")]
     TooShort,
-    /// A value is outside the block's rules.
+    #[error("a value is outside the block's rules")]
     OutsideRules,
 }
 
-impl ComposeFault {
-    /// The numbers of the refusal.
-    pub fn refusal(self) -> Refusal
-        ensures { refusal_value result ≡ compose_refusal self }
-    {
-        let number = match self {
-            ComposeFault::TooShort => 24,
-            ComposeFault::OutsideRules => 25,
-        };
-        Refusal {
-            number,
-            place: 0,
-            inner: 0,
+impl From<ComposeFault> for Refusal {
+    ghost from_gives = { λ fault gives. refusal_value gives ≡ compose_refusal fault };
+
+    fn from(fault: ComposeFault) -> Refusal {
+        match fault {
+            ComposeFault::TooShort => Refusal::numbered(24),
+            ComposeFault::OutsideRules => Refusal::numbered(25),
         }
     }
 }
@@ -50,7 +46,7 @@ pub fn head_is_allowed(height: Height, previous: &Digest, count: usize) -> bool
     if height.0 > MAX_HEIGHT || count > MAX_COMMANDS {
         return false;
     }
-    height.0 > 0 || previous.bytes == [0; DIGEST_LEN]
+    height.0 > 0 || *previous == Digest::ZERO
 }
 
 fn is_allowed(command: &Command) -> bool
@@ -112,7 +108,7 @@ fn write_command(buffer: &mut [u8], at: usize, command: &Command) -> usize
             target,
         } => {
             let at = write_at(buffer, at, &[layout::EXECUTE, *code]);
-            let at = write_at(buffer, at, &value_bytes(*argument));
+            let at = write_at(buffer, at, &value_to_bytes(*argument));
             write_at(buffer, at, &target.to_bytes())
         }
         Command::Receive { message } => {

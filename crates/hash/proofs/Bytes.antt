@@ -27,11 +27,6 @@ pub length_to_bytes : (x : ℕ)
     ≡ to_bytes length_len x
 length_to_bytes x = simp div-div-eq-div-mul
 
--- one more word
-pub joined_take : (ws : List ℕ) (i : ℕ) → i < length ws
-    → flat_map word_bytes (take (i + 1) ws) ≡ flat_map word_bytes (take i ws) ++ word_bytes (get_or ws i 0)
-joined_take ws i h = ap (flat_map word_bytes) (take_more ws i 0 h) ∙ sym (flat_map_more word_bytes [] (take i ws) (get_or ws i 0))
-
 -- the bytes of a number give it back, modulo what they hold
 pub from_to_bytes : (n x : ℕ) → from_bytes (to_bytes n x) ≡ x % 2 ^ (byte_bits * n)
 from_to_bytes zero x = omega arith

@@ -46,11 +46,8 @@ fn words_of(block: &[u8; BLOCK_LEN]) -> [u32; BLOCK_WORDS]
     ensures { result ≡ words_of block.now }
 {
     let (words, _) = block.as_chunks::<WORD_LEN>();
-    let mut w = [0; BLOCK_WORDS];
-    for t in 0..BLOCK_WORDS {
-        w[t] = u32::from_be_bytes(words[t]);
-    }
-    w
+    let words = words.first_chunk::<BLOCK_WORDS>().unwrap();
+    words.map(u32::from_be_bytes)
 }
 
 // The word of a message schedule by those that stand 16, 15, 7 and 2 before it.
@@ -101,7 +98,8 @@ fn round(v: [u32; HASH_WORDS], k: u32, w: u32) -> [u32; HASH_WORDS]
     [t1.wrapping_add(t2), a, b, c, d.wrapping_add(t1), e, f, g]
 }
 
-// A group of rounds, written out so that the working variables change places in name only.
+// A group of rounds, written out so that the working variables change places in name only. A `for` has no proof here ("a
+// call's result is laid in a local that is lent, or holds a reference or an array"), and `search` does not close a `fold`.
 fn rounds(v: [u32; HASH_WORDS], k: &[u32; BLOCK_WORDS], w: &[u32; BLOCK_WORDS]) -> [u32; HASH_WORDS]
     ensures { result ≡ after_rounds block_words k.now w.now v }
 {

@@ -46,11 +46,9 @@ pub(crate) fn compress_last(hash: &mut [u32; HASH_WORDS], rest: &[u8], count: u6
 pub(crate) fn digest_bytes(hash: &[u32; HASH_WORDS]) -> [u8; DIGEST_LEN]
     ensures { result ≡ flat_map word_bytes hash.now }
 {
+    let words = hash.map(u32::to_be_bytes);
     let mut out = [0; DIGEST_LEN];
-    for i in 0..HASH_WORDS {
-        let word = hash[i].to_be_bytes();
-        out[WORD_LEN * i..WORD_LEN * i + WORD_LEN].copy_from_slice(&word);
-    }
+    out.copy_from_slice(words.as_flattened());
     out
 }
 

@@ -25,9 +25,9 @@ pub(crate) fn key_block(key: &[u8]) -> [u8; BLOCK_LEN]
 fn xored(block: &[u8; BLOCK_LEN], pad: u8) -> [u8; BLOCK_LEN]
     ensures { result ≡ xor_each pad block.now }
 {
-    let mut out = [0; BLOCK_LEN];
-    for i in 0..BLOCK_LEN {
-        out[i] = block[i] ^ pad;
+    let mut out = *block;
+    for byte in &mut out {
+        *byte ^= pad;
     }
     out
 }

@@ -1,5 +1,5 @@
 -- What request and certificate frames hold, by place and bytes.
-use Rattle.std.specs.Prelude.{◌≡◌, ℕ, ◌+◌, ◌*◌, ◌≤◌, Bool, ◌&&◌, List, map, length, take, drop, Ok, Err, Result, ◌==◌, nat_le, slice_index, slice_index_or}
+use Rattle.std.specs.Prelude.{ℕ, ◌+◌, ◌*◌, Bool, ◌&&◌, List, map, length, take, drop, Ok, Err, Result, ◌==◌, nat_le, slice_index, slice_index_or}
 use Rattle.std.specs.List.{range_with_len}
 use Rattle.std.specs.Str.{bytes_eq}
 use Rattle.format.specs.Layout.{max_block_len}
@@ -81,12 +81,3 @@ certificate_value c = record { block = placed c.block; votes = map (vote_of c) (
 abbrev pub certificate_answer : Result Certificate ReadFault → Outcome CertificateValue
 certificate_answer (Ok c) = Passed (certificate_value c)
 certificate_answer (Err e) = Refused (read_refusal e)
-
--- where the vote of that place ends
-abbrev pub vote_end : Certificate → ℕ → ℕ
-vote_end c i = vote_start c.width c.first i + member_len + c.width
-
--- a certificate that was read has at most sixteen votes, and they fill its frame: each of them is there
-abbrev pub Filled : Result Certificate ReadFault → Type 0
-Filled (Ok c) = (c.count ≤ max_seals) × (length c.frame.now ≡ vote_start c.width c.first c.count)
-Filled (Err e) = Unit {0}

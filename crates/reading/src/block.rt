@@ -6,7 +6,7 @@ ghost use Rattle.reading.specs.Parts.{head_answer, head_value};
 ghost use Rattle.reading.specs.RoundTrip.{RoundTrip};
 
 use crate::cursor::Cursor;
-use crate::fields::{height_in, read_identifier};
+use crate::fields::read_identifier;
 use crate::part::{Part, ReadFault};
 use format::layout::{DIGEST_LEN, HEAD_LEN, HEIGHT_LEN, IDENTIFIER_LEN};
 use format::{Digest, Height, Identifier, head_is_allowed};
@@ -31,18 +31,15 @@ fn read_head(bytes: &[u8]) -> Option<Head>
     if bytes.len() < HEAD_LEN {
         return None;
     }
-    let height = height_in(&bytes[IDENTIFIER_LEN..PREVIOUS_AT]);
-    let Some(previous) = bytes[PREVIOUS_AT..COUNT_AT].first_chunk::<DIGEST_LEN>() else {
-        return None;
+    let height = Height::from_bytes(*bytes[IDENTIFIER_LEN..].first_chunk()?);
+    let previous = Digest {
+        bytes: *bytes[PREVIOUS_AT..].first_chunk()?,
     };
-    let previous = Digest { bytes: *previous };
     let count = bytes[COUNT_AT];
-    if !head_is_allowed(height, &previous, count as usize) {
+    if !head_is_allowed(height, &previous, usize::from(count)) {
         return None;
     }
-    let Some(chain) = read_identifier(&bytes[0..IDENTIFIER_LEN]) else {
-        return None;
-    };
+    let chain = read_identifier(&bytes[..IDENTIFIER_LEN])?;
     Some(Head {
         chain,
         height,

@@ -1,27 +1,22 @@
-//! Certificate frames.
-ghost use Rattle.std.specs.Prelude.{◌≡◌, ◌&&◌, length, if◌then◌else◌, Some, None, nat_le, nat_lt};
-ghost use Rattle.std.specs.Option.{option_map};
-ghost use Rattle.reading.specs.Frames.{Filled, certificate_answer, certificate_in, vote_end, vote_of, vote_value};
+//! Certificates and their votes.
+ghost use Rattle.std.specs.Prelude.{◌≡◌, ◌+◌, ◌*◌, ◌≤◌, length};
+ghost use Rattle.reading.specs.FrameLayout.{max_seals, member_len};
 
-use crate::frame::{BLOCK_AT, said_len};
-use crate::part::{Part, ReadFault};
-use seals::Seals;
+use crate::part::Part;
 
-const SEAL_COUNT_LEN: usize = 1;
-
-const MEMBER_LEN: usize = 1;
-/// The most seals that a certificate has.
-pub const MAX_SEALS: u8 = 16;
+pub mod methods;
 
 /// A block, and `count` votes from the place `first` of the frame on, each a member number and a seal of
-/// `width` bytes.
+/// `width` bytes. They fill the frame.
 #[derive(Clone, Copy)]
 pub struct Certificate<'a> {
     pub block: Part<'a>,
     frame: &'a [u8],
-    first: u16,
+    first: usize,
     count: u8,
-    width: u16,
+    width: usize,
+    ghost few: { count ≤ max_seals },
+    ghost filled: { length frame.now ≡ first + count * (member_len + width) },
 }
 
 /// A member number and its seal.
@@ -29,60 +24,4 @@ pub struct Certificate<'a> {
 pub struct Vote<'a> {
     pub member: u8,
     pub seal: Part<'a>,
-}
-
-/// The parts of a certificate frame under a scheme of seals. Its votes fill the frame.
-pub fn read_certificate<'a, S: Seals>(frame: &'a [u8]) -> Result<Certificate<'a>, ReadFault>
-    ensures answer { certificate_answer result ≡ certificate_in S.Seals.width frame.now }
-    ensures filled { Filled result }
-{
-    let Some(len) = said_len(frame, b"CERT") else {
-        return Err(ReadFault::Frame);
-    };
-    let end = BLOCK_AT + len;
-    if frame.len() < end + SEAL_COUNT_LEN {
-        return Err(ReadFault::Frame);
-    }
-    let count = frame[end];
-    if count > MAX_SEALS {
-        return Err(ReadFault::Frame);
-    }
-    let first = end + SEAL_COUNT_LEN;
-    let width = S::seal_len();
-    if frame.len() - first != count as usize * (MEMBER_LEN + width) {
-        return Err(ReadFault::Frame);
-    }
-    let block = Part {
-        at: BLOCK_AT,
-        bytes: &frame[BLOCK_AT..end],
-    };
-    Ok(Certificate {
-        block,
-        frame,
-        first: first as u16,
-        count,
-        width: width as u16,
-    })
-}
-
-impl<'a> Certificate<'a> {
-    /// The vote of that place, from 0, or none past the last.
-    pub fn vote(&self, place: usize) -> Option<Vote<'a>>
-        ensures { option_map vote_value result ≡ (if nat_lt place self.now.count && nat_le (vote_end self.now place) (length self.now.frame.now) then Some (vote_of self.now place) else None) }
-    {
-        if place >= self.count as usize {
-            return None;
-        }
-        let at = self.first as usize + place * (MEMBER_LEN + self.width as usize);
-        let seal = at + MEMBER_LEN;
-        let end = seal + self.width as usize;
-        if end > self.frame.len() {
-            return None;
-        }
-        let bytes = &self.frame[seal..end];
-        Some(Vote {
-            member: self.frame[at],
-            seal: Part { at: seal, bytes },
-        })
-    }
 }

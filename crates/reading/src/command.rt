@@ -8,12 +8,13 @@ ghost use Rattle.reading.specs.Cursors.{Found};
 ghost use Rattle.reading.specs.Parts.{placed};
 ghost use Rattle.reading.specs.Views.{cut, view_value, viewed};
 
-use crate::fields::{key_in, read_identifier, read_message, value_in};
+use crate::fields::{read_identifier, read_message};
+use crate::operands::Operands;
 use crate::part::Part;
 use format::layout::{
     CODE_LEN, COMMAND_BYTE_LEN, HEIGHT_LEN, IDENTIFIER_LEN, KEY_LEN, NAME_LEN, VALUE_LEN,
 };
-use format::{Command, layout};
+use format::{Command, Key, layout, value_from_bytes};
 
 /// A command by its byte, and its operands as one part of the frame.
 #[derive(Clone, Copy)]
@@ -53,20 +54,15 @@ fn read_open(operands: &[u8]) -> Option<Command>
     if operands.len() != layout::OPEN_LEN {
         return None;
     }
-    let Some(child) = read_identifier(&operands[0..IDENTIFIER_LEN]) else {
-        return None;
-    };
-    let key = key_in(&operands[IDENTIFIER_LEN..]);
+    let child = read_identifier(&operands[..IDENTIFIER_LEN])?;
+    let key = Key::from_bytes(*operands.last_chunk()?);
     Some(Command::Open { child, key })
 }
 
 fn read_change(operands: &[u8]) -> Option<Command>
     ensures { option_map command_value result ≡ change_in operands.now }
 {
-    if operands.len() != layout::CHANGE_LEN {
-        return None;
-    }
-    let key = key_in(operands);
+    let key = Key::from_bytes(operands.try_into().ok()?);
     Some(Command::Change { key })
 }
 
@@ -76,11 +72,9 @@ fn read_execute(operands: &[u8]) -> Option<Command>
     if operands.len() != layout::EXECUTE_LEN {
         return None;
     }
-    let Some(target) = read_identifier(&operands[CODE_LEN + VALUE_LEN..]) else {
-        return None;
-    };
+    let target = read_identifier(&operands[CODE_LEN + VALUE_LEN..])?;
     let code = operands[0];
-    let argument = value_in(&operands[CODE_LEN..CODE_LEN + VALUE_LEN]);
+    let argument = value_from_bytes(*operands[CODE_LEN..].first_chunk()?);
     Some(Command::Execute {
         code,
         argument,
@@ -91,9 +85,7 @@ fn read_execute(operands: &[u8]) -> Option<Command>
 fn read_receive(operands: &[u8]) -> Option<Command>
     ensures { option_map command_value result ≡ receive_in operands.now }
 {
-    let Some(message) = read_message(operands) else {
-        return None;
-    };
+    let message = read_message(operands)?;
     Some(Command::Receive { message })
 }
 
@@ -117,18 +109,19 @@ impl<'a> CommandPart<'a> {
     pub fn view(&self) -> Option<CommandView<'a>>
         ensures { option_map view_value result ≡ viewed self.now.byte (placed self.now.operands) }
     {
-        let p = self.operands;
-        if p.bytes.len() != operands_len(self.byte) || p.at > usize::MAX - p.bytes.len() {
+        let part = self.operands;
+        if part.bytes.len() != operands_len(self.byte) || part.at > usize::MAX - part.bytes.len() {
             return None;
         }
+        let operands = Operands { part };
         match self.byte {
-            layout::OPEN => Some(view_open(p)),
+            layout::OPEN => Some(view_open(operands)),
             layout::CHANGE => Some(CommandView::Change {
-                key: cut_part(p, 0, KEY_LEN),
+                key: operands.cut(0, KEY_LEN),
             }),
             layout::CLOSE => Some(CommandView::Close),
-            layout::EXECUTE => Some(view_execute(p)),
-            layout::RECEIVE => Some(view_receive(p)),
+            layout::EXECUTE => Some(view_execute(operands)),
+            layout::RECEIVE => Some(view_receive(operands)),
             _ => None,
         }
     }
@@ -148,52 +141,37 @@ fn operands_len(byte: u8) -> usize
     }
 }
 
-// A part of a part.
-fn cut_part<'a>(p: Part<'a>, from: usize, end: usize) -> Part<'a>
-    requires { (from ≤ end) × ((end ≤ length p.bytes.now) × (p.at + length p.bytes.now < 2 ^ 64)) }
-    ensures { placed result ≡ (p.entry.at + from, take (end - from) (drop from p.entry.bytes.now)) }
-{
-    Part {
-        at: p.at + from,
-        bytes: &p.bytes[from..end],
-    }
-}
-
-fn view_open<'a>(p: Part<'a>) -> CommandView<'a>
-    requires { (length p.bytes.now ≡ open_len) × (p.at + length p.bytes.now < 2 ^ 64) }
-    ensures { view_value result ≡ (open_byte, cut (placed p.entry) 0 (identifier_len ∷ key_len ∷ [])) }
+fn view_open<'a>(operands: Operands<'a>) -> CommandView<'a>
+    requires { length operands.part.bytes.now ≡ open_len }
+    ensures { view_value result ≡ (open_byte, cut (placed operands.entry.part) 0 (identifier_len ∷ key_len ∷ [])) }
 {
     CommandView::Open {
-        child: cut_part(p, 0, IDENTIFIER_LEN),
-        key: cut_part(p, IDENTIFIER_LEN, IDENTIFIER_LEN + KEY_LEN),
+        child: operands.cut(0, IDENTIFIER_LEN),
+        key: operands.cut(IDENTIFIER_LEN, IDENTIFIER_LEN + KEY_LEN),
     }
 }
 
-fn view_execute<'a>(p: Part<'a>) -> CommandView<'a>
-    requires { (length p.bytes.now ≡ execute_len) × (p.at + length p.bytes.now < 2 ^ 64) }
-    ensures { view_value result ≡ (execute_byte, cut (placed p.entry) 0 (code_len ∷ value_len ∷ identifier_len ∷ [])) }
+fn view_execute<'a>(operands: Operands<'a>) -> CommandView<'a>
+    requires { length operands.part.bytes.now ≡ execute_len }
+    ensures { view_value result ≡ (execute_byte, cut (placed operands.entry.part) 0 (code_len ∷ value_len ∷ identifier_len ∷ [])) }
 {
     CommandView::Execute {
-        code: cut_part(p, 0, CODE_LEN),
-        argument: cut_part(p, CODE_LEN, CODE_LEN + VALUE_LEN),
-        target: cut_part(
-            p,
-            CODE_LEN + VALUE_LEN,
-            CODE_LEN + VALUE_LEN + IDENTIFIER_LEN,
-        ),
+        code: operands.cut(0, CODE_LEN),
+        argument: operands.cut(CODE_LEN, CODE_LEN + VALUE_LEN),
+        target: operands.cut(CODE_LEN + VALUE_LEN, CODE_LEN + VALUE_LEN + IDENTIFIER_LEN),
     }
 }
 
-fn view_receive<'a>(p: Part<'a>) -> CommandView<'a>
-    requires { (length p.bytes.now ≡ receive_len) × (p.at + length p.bytes.now < 2 ^ 64) }
-    ensures { view_value result ≡ (receive_byte, cut (placed p.entry) 0 (identifier_len ∷ height_len ∷ index_len ∷ code_len ∷ value_len ∷ [])) }
+fn view_receive<'a>(operands: Operands<'a>) -> CommandView<'a>
+    requires { length operands.part.bytes.now ≡ receive_len }
+    ensures { view_value result ≡ (receive_byte, cut (placed operands.entry.part) 0 (identifier_len ∷ height_len ∷ index_len ∷ code_len ∷ value_len ∷ [])) }
 {
     CommandView::Receive {
-        sender: cut_part(p, 0, IDENTIFIER_LEN),
-        height: cut_part(p, IDENTIFIER_LEN, IDENTIFIER_LEN + HEIGHT_LEN),
-        index: cut_part(p, IDENTIFIER_LEN + HEIGHT_LEN, NAME_LEN),
-        code: cut_part(p, NAME_LEN, NAME_LEN + CODE_LEN),
-        value: cut_part(p, NAME_LEN + CODE_LEN, NAME_LEN + CODE_LEN + VALUE_LEN),
+        sender: operands.cut(0, IDENTIFIER_LEN),
+        height: operands.cut(IDENTIFIER_LEN, IDENTIFIER_LEN + HEIGHT_LEN),
+        index: operands.cut(IDENTIFIER_LEN + HEIGHT_LEN, NAME_LEN),
+        code: operands.cut(NAME_LEN, NAME_LEN + CODE_LEN),
+        value: operands.cut(NAME_LEN + CODE_LEN, NAME_LEN + CODE_LEN + VALUE_LEN),
     }
 }
 
@@ -215,8 +193,6 @@ pub(crate) fn read_command<'a>(rest: &'a [u8], at: usize) -> Option<CommandPart<
         bytes: &rest[COMMAND_BYTE_LEN..end],
     };
     let command = CommandPart { byte, operands };
-    let Some(_) = command.value() else {
-        return None;
-    };
+    command.value()?;
     Some(command)
 }

@@ -2,7 +2,6 @@
 ghost use Rattle.std.specs.Prelude.{◌≡◌, if◌then◌else◌, Some, None};
 ghost use Rattle.reading.specs.Frames.{begins, block_len, request_answer, request_in};
 
-use crate::fields::two_bytes_in;
 use crate::part::{Part, ReadFault};
 use format::layout::MAX_BLOCK_LEN;
 use seals::Seals;
@@ -28,7 +27,7 @@ pub(crate) fn said_len(frame: &[u8], marker: &[u8; MARKER_LEN]) -> Option<usize>
     if !frame.starts_with(marker) || frame.len() < BLOCK_AT {
         return None;
     }
-    let len = two_bytes_in(&frame[MARKER_LEN..BLOCK_AT]) as usize;
+    let len = usize::from(u16::from_be_bytes(*frame[MARKER_LEN..].first_chunk()?));
     if len > MAX_BLOCK_LEN {
         return None;
     }

@@ -7,10 +7,12 @@ mod command;
 mod cursor;
 mod fields;
 mod frame;
+mod operands;
 mod part;
 
 pub use block::{Head, read_block};
-pub use certificate::{Certificate, MAX_SEALS, Vote, read_certificate};
+pub use certificate::methods::{MAX_SEALS, read_certificate};
+pub use certificate::{Certificate, Vote};
 pub use command::{CommandPart, CommandView};
 pub use cursor::Cursor;
 pub use fields::{read_identifier, read_message, read_name};

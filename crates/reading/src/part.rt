@@ -4,6 +4,7 @@ ghost use Rattle.format.specs.Meaning.{refusal_value};
 ghost use Rattle.reading.specs.Parts.{read_refusal};
 
 use format::Refusal;
+use thiserror::Error;
 
 /// Bytes of a frame, and where the first of them stands in it.
 #[derive(Clone, Copy)]
@@ -13,31 +14,25 @@ pub struct Part<'a> {
 }
 
 /// Why bytes are not read.
-#[derive(Clone, Copy, PartialEq, Eq, Debug)]
+#[derive(Clone, Copy, PartialEq, Eq, Debug, Error)]
 pub enum ReadFault {
-    /// The frame's letters, lengths or seal count are wrong, or its block is too long.
+    #[error("the frame's letters, lengths or seal count are wrong, or its block is too long")]
     Frame,
-    /// The block's head is cut short or outside its rules, or bytes are left over.
+    #[error("the block's head is cut short or outside its rules, or bytes are left over")]
     Block,
-    /// The command at this place is missing or unknown, or its operands are cut short or outside
-    /// their rules.
+    /// By the command's place.
+    #[error("command {0} is missing or unknown, or its operands are cut short or outside their rules")]
     Command(usize),
 }
 
-impl ReadFault {
-    /// The numbers of the refusal.
-    pub fn refusal(self) -> Refusal
-        ensures { refusal_value result ≡ read_refusal self }
-    {
-        let (number, place) = match self {
-            ReadFault::Frame => (1, 0),
-            ReadFault::Block => (2, 0),
-            ReadFault::Command(place) => (3, place),
-        };
-        Refusal {
-            number,
-            place,
-            inner: 0,
+impl From<ReadFault> for Refusal {
+    ghost from_gives = { λ fault gives. refusal_value gives ≡ read_refusal fault };
+
+    fn from(fault: ReadFault) -> Refusal {
+        match fault {
+            ReadFault::Frame => Refusal::numbered(1),
+            ReadFault::Block => Refusal::numbered(2),
+            ReadFault::Command(place) => Refusal::at(3, place),
         }
     }
 }

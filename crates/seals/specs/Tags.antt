@@ -1,5 +1,6 @@
 -- Tag seals: HMAC-SHA-256 of the digest under the key's secret.
-use Rattle.std.specs.Prelude.{◌≡◌, ℕ, Bool, true, false, cond, List, [], ◌∷◌, length, Some, None, Option, ◌==◌}
+use Rattle.std.specs.Prelude.{◌≡◌, ℕ, Bool, true, false, List, length, find, Some, None, Option, ◌==◌}
+use Rattle.std.specs.Option.{option_map}
 use Rattle.std.proofs.Common.{ap, ◌∙◌, lit≤}
 use Rattle.std.proofs.lemmas.Slice.Eq.{bytes_eq-Decides}
 use Rattle.std.proofs.lemmas.Bool.{false≢true}
@@ -13,8 +14,7 @@ use Rattle.seals.specs.declared.tags.Tags.{Tags}
 
 -- the secret of a key: the first that the book has for it
 abbrev pub secret_of : List Secret → ℕ → Option (List ℕ)
-secret_of [] key = None
-secret_of (s ∷ ss) key = cond (s.key.0 == key) (Some s.secret) (secret_of ss key)
+secret_of book key = option_map (λ s. s.secret) (find (λ s. s.key.0 == key) book)
 
 -- no secret means no
 abbrev pub tagged : Option (List ℕ) → List ℕ → List ℕ → Bool

@@ -18,7 +18,8 @@ pub trait Seals {
     /// How many bytes a seal has, from 1 to 2,000.
     const WIDTH: usize;
 
-    // `WIDTH`, by the name that contracts of generic code can cite.
+    // `WIDTH`, by the name that contracts of generic code can cite. A `ghost WIDTH` beside the constant is refused in an impl
+    // for a type with a lifetime: "cannot give this method the clauses of its trait yet".
     ghost width: { ℕ };
 
     // The triples that the scheme holds.

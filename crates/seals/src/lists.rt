@@ -26,7 +26,7 @@ pub struct CheckedList<'a> {
 fn is_checked(row: &Checked, key: Key, digest: &Digest) -> bool
     ensures { result ≡ row_is row.now key.0 (digest_value digest.now) }
 {
-    row.key.0 == key.0 && row.digest.bytes == digest.bytes
+    row.key == key && row.digest == *digest
 }
 
 impl Seals for CheckedList<'_> {
@@ -45,13 +45,12 @@ impl Seals for CheckedList<'_> {
     }
 
     fn verify(&self, key: Key, digest: &Digest, seal: &[u8]) -> bool {
-        if seal.len() != ROW_LEN {
+        let Ok(place) = <[u8; ROW_LEN]>::try_from(seal) else {
             return false;
+        };
+        match self.rows.get(u32::from_be_bytes(place) as usize) {
+            Some(row) => is_checked(row, key, digest),
+            None => false,
         }
-        let row = u32::from_be_bytes([seal[0], seal[1], seal[2], seal[3]]) as usize;
-        if row >= self.rows.len() {
-            return false;
-        }
-        is_checked(&self.rows[row], key, digest)
     }
 }

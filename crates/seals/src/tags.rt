@@ -29,12 +29,8 @@ pub struct Tags<'a> {
 fn find_secret(book: &[Secret], key: Key) -> Option<[u8; SECRET_LEN]>
     ensures { result ≡ secret_of book.now key.0 }
 {
-    for entry in book {
-        if entry.key.0 == key.0 {
-            return Some(entry.secret);
-        }
-    }
-    None
+    let entry = book.iter().find(|entry| entry.key == key)?;
+    Some(entry.secret)
 }
 
 // Whether a seal is the tag. It takes the same steps whatever the bytes are.
@@ -45,8 +41,8 @@ fn is_tag(seal: &[u8], tag: &[u8; TAG_LEN]) -> bool
         return false;
     }
     let mut difference = 0;
-    for i in 0..TAG_LEN {
-        difference |= seal[i] ^ tag[i];
+    for (x, y) in seal.iter().zip(tag) {
+        difference |= x ^ y;
     }
     difference == 0
 }

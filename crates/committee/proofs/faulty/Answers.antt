@@ -11,5 +11,5 @@ total-requires c = few_members c.args.members.now c.if-not-is_committee.ensures
 
 pub returns : goal.returns
 returns c =
-    let weight = ap (λ t. t / 3) c.saturating_sub-others.ensures ∙ ap (λ t. (t - 1) / 3) c.total.ensures.value in
+    let weight = ap (λ t. t / 3) c.saturating_sub-others.ensures ∙ ap (λ t. (t - 1) / 3) c.total.ensures in
     faulty_is c.args.members.now _ c.if-not-is_committee.ensures weight

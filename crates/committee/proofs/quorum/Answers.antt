@@ -10,5 +10,5 @@ total-total-requires c = few_members c.args.members.now c.if-not-is_committee.en
 
 pub returns : goal.returns
 returns c =
-    let weight = ap (λ t. c.total-total.result - t / 3) c.saturating_sub.ensures ∙ ap (λ t. t - (t - 1) / 3) c.total-total.ensures.value in
+    let weight = ap (λ t. c.total-total.result - t / 3) c.saturating_sub.ensures ∙ ap (λ t. t - (t - 1) / 3) c.total-total.ensures in
     record { value = quorum_is c.args.members.now _ c.if-not-is_committee.ensures weight; overlap = quorums_overlap }

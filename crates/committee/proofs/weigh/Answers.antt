@@ -9,7 +9,7 @@ loop-number-init c = (omega arith, omega arith, weight_start c.args.members.now 
 pub returns-then-number-least : goal.returns-then-number-least
 returns-then-number-least c =
     sym (c.loop-number.invariant.2 ∙ weight_refused c.args.members.now c.args.numbers.now c.loop-number.number-index c.loop-number.least c.loop-number.sum c.loop-number-test.true
-    (⊎_elim inl (λ h. inr h.1) c.then-number-least.either))
+    (⊎_elim (λ h. inl (omega (arith, c.from-number.ensures))) (λ h. inr (omega (arith, c.from-number.ensures, h.1))) c.then-number-least.either))
 
 pub loop-number-preserved : goal.loop-number-preserved
 loop-number-preserved c =
@@ -21,7 +21,7 @@ loop-number-preserved c =
     let weight : (get_or ms n no_one).weight < 65536 = search rules in (
       omega arith,
       omega arith,
-      c.loop-number.invariant.2 ∙ weight_more ms ns i c.loop-number.least c.loop-number.sum c.loop-number-test.true c.if-number-least.false c.if-number-members.false,
+      simp (c.from-number.ensures, c.from-sum.ensures) (c.loop-number.invariant.2 ∙ weight_more ms ns i c.loop-number.least c.loop-number.sum c.loop-number-test.true (omega (arith, c.from-number.ensures, c.if-number-least.false)) (omega (arith, c.from-number.ensures, c.if-number-members.false))),
     )
 
 pub returns : goal.returns

@@ -5,25 +5,24 @@ ghost use Rattle.std.specs.Result.{result_ok};
 ghost use Rattle.format.specs.Bytes.{identifier_bytes};
 ghost use Rattle.format.specs.Identifiers.{Identifies, all_zero, well_formed, identified};
 ghost use Rattle.format.specs.Meaning.{identifier_value};
-ghost use Rattle.format.specs.Same.{first_is_even};
+ghost use Rattle.format.specs.Order.{order_identifiers};
+ghost use Rattle.format.specs.Same.{first_is_even, same_identifier};
 
 use super::Identifier;
 use crate::layout::{IDENTIFIER_LEN, MAX_DEPTH, Number};
 use crate::writing::{write_at, write_numbers};
+use std::fmt;
+use thiserror::Error;
 
 /// The depth is not 1 to 4, or a number past it is not zero.
-#[derive(Clone, Copy, PartialEq, Eq, Debug)]
+#[derive(Clone, Copy, PartialEq, Eq, Debug, Error)]
+#[error("an identifier has 1 to 4 numbers, and zeros behind them")]
 pub struct NotWellFormed;
 
 fn are_zero(numbers: &[Number]) -> bool
     ensures { result ≡ all_zero numbers.now }
 {
-    for number in numbers {
-        if *number != 0 {
-            return false;
-        }
-    }
-    true
+    numbers.iter().all(|number| *number == 0)
 }
 
 fn is_well_formed(depth: u8, numbers: &[Number; MAX_DEPTH]) -> bool
@@ -63,9 +62,11 @@ impl Identifier {
         }
     }
 
-    /// The numbers in use.
+    /// The numbers in use. They tell which identifiers are equal, and which is the lesser.
     pub fn numbers(&self) -> &[Number]
-        ensures { result.now ≡ identifier_value self.now }
+        ensures value { result.now ≡ identifier_value self.now }
+        ensures equality { (x y : Identifier) → ⟦<Identifier as PartialEq>⟧.eq x y ≡ same_identifier (identifier_value x) (identifier_value y) }
+        ensures order { (x y : Identifier) → ⟦<Identifier as Ord>⟧.cmp x y ≡ order_identifiers (identifier_value x) (identifier_value y) }
     {
         &self.numbers[0..self.depth as usize]
     }
@@ -79,5 +80,18 @@ impl Identifier {
         let at = write_at(&mut bytes, 0, &[self.depth]);
         write_numbers(&mut bytes, at, &self.numbers);
         bytes
+    }
+}
+
+impl fmt::Display for Identifier {
+    // The numbers, joined by dots.
+    fn fmt<W: fmt::Write>(&self, f: &mut fmt::Formatter<W>) -> fmt::Result {
+        for (i, number) in self.numbers().iter().enumerate() {
+            if i > 0 {
+                write!(f, ".")?;
+            }
+            write!(f, "{number}")?;
+        }
+        Ok(())
     }
 }

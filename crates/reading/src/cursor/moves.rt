@@ -28,7 +28,8 @@ impl<'a> Cursor<'a> {
         }
     }
 
-    /// The next command as it lies in the frame, or none after the last.
+    /// The next command as it lies in the frame, or none after the last. After a refusal the cursor stands where it stood.
+    // No `Iterator`: one over results would have to end after a refusal, and keep that it came.
     pub fn next(&mut self) -> Result<Option<CommandPart<'a>>, ReadFault>
         ensures { Moved (cursor_value self.old) (cursor_value self.new) result }
     {

@@ -9,5 +9,5 @@ pub returns : goal.returns
 unfolding head_bytes
 returns c =
     wrote_then (wrote_as c.write_at-at.ensures c.to_bytes.ensures.bytes)
-    (wrote_then (wrote_as c.write_at-at-2.ensures c.to_bytes-2.ensures)
+    (wrote_then (wrote_as c.write_at-at-2.ensures c.to_bytes-2.ensures.bytes)
     (wrote_then c.write_at-at-3.ensures (wrote_as c.write_at.ensures (ap (λ n. n ∷ []) (sym (length-map c.args.block.now.commands.now command_value))))))

@@ -1,26 +1,18 @@
-use Rattle.std.proofs.Common.{◌≡◌, ◌+◌, ◌*◌, ◌++◌, length, get_or, sym, ap, ◌∙◌, ap₂, arith, rules}
+use Rattle.std.proofs.Common.{◌≡◌, ◌<◌, [], map, length, get_or, sym, ap, ◌∙◌, rules}
 use Rattle.std.specs.List.{flat_map}
-use Rattle.std.proofs.lemmas.List.{places, take_all}
-use Rattle.std.proofs.lemmas.Slice.{take-put_mid}
-use Rattle.hash.specs.Sizes.{word_len, hash_words}
+use Rattle.std.proofs.lemmas.List.{ext_get_or, get_or-map, length-map}
+use Rattle.std.proofs.lemmas.List.Folds.{flat_map-map}
 use Rattle.hash.specs.Words.{word_bytes}
-use Rattle.hash.proofs.Bytes.{word_to_bytes, joined_take}
+use Rattle.hash.proofs.Bytes.{word_to_bytes}
 use Rattle.hash.proofs.digest.digest_bytes.Goals as goal
-
-pub loop-i-preserved : goal.loop-i-preserved
-loop-i-preserved c =
-    let h : length c.args.hash.now ≡ hash_words = search rules in
-    let b = word_to_bytes (get_or c.args.hash.now c.loop-i.i 0) in
-    let e : c.copy_from_slice.new.self ≡ word_bytes (get_or c.args.hash.now c.loop-i.i 0) = cc in (
-      search (rules, places),
-      take-put_mid (word_len * c.loop-i.i) _ c.loop-i.out c.copy_from_slice.new.self (word_len * (c.loop-i.i + 1)) (omega (arith, ap length e)) (omega arith)
-          ∙ ap₂ (λ x y. x ++ y) c.loop-i.invariant.1 e
-          ∙ sym (joined_take c.args.hash.now c.loop-i.i (omega arith)),
-    )
 
 pub returns : goal.returns
 returns c =
-    let n : c.loop-i.i ≡ hash_words = omega arith in
-    sym (take_all (word_len * c.loop-i.i) c.loop-i.out (omega arith))
-    ∙ c.loop-i.invariant.1
-    ∙ ap (flat_map word_bytes) (take_all c.loop-i.i c.args.hash.now (omega (arith, c.told-hash)))
+    let items = c.map-words.ensures.items in
+    let words = c.args.hash.now in
+    let each : c.map-words.result ≡ map word_bytes words =
+    ext_get_or [] c.map-words.result (map word_bytes words) (search (rules, length-map))
+    (λ k h.
+    let in_words : k < length words = search rules in
+    (items.at k 0 [] (search rules)).2.met ∙ word_to_bytes (get_or words k 0) ∙ sym (get_or-map word_bytes words k 0 [] in_words)) in
+    c.copy_from_slice.ensures.after ∙ c.as_flattened.ensures.value ∙ ap (flat_map (λ x. x)) each ∙ flat_map-map (λ x. x) word_bytes words

@@ -9,14 +9,14 @@ pub returns-then-operands-ne-EXECUTE_LEN : goal.returns-then-operands-ne-EXECUTE
 unfolding execute_in
 returns-then-operands-ne-EXECUTE_LEN c = search rules
 
-pub returns-in_default : goal.returns-in_default
+pub returns-in_err-target : goal.returns-in_err-target
 unfolding execute_in
-returns-in_default c =
-    let t = c.in_default.ensures ∙ ap identifier_in (take_rest c.args.operands.now (code_len + value_len)) in
+returns-in_err-target c =
+    let t = ap identifier_in (take_rest c.args.operands.now (code_len + value_len)) in
     search rules
 
 pub returns : goal.returns
 unfolding execute_in
 returns c =
-    let t = c.in-Some.ensures ∙ ap identifier_in (take_rest c.args.operands.now (code_len + value_len)) in
+    let t = c.in_ok-target.ensures ∙ ap identifier_in (take_rest c.args.operands.now (code_len + value_len)) in
     search rules

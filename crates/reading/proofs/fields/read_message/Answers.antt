@@ -1,7 +1,4 @@
-use Rattle.std.proofs.Common.{◌+◌, ap, ◌∙◌, rules}
-use Rattle.std.proofs.lemmas.List.{take_rest}
-use Rattle.format.specs.Layout.{name_len, code_len}
-use Rattle.format.specs.Numbers.{signed_number}
+use Rattle.std.proofs.Common.{rules}
 use Rattle.reading.specs.Fields.{message_in}
 use Rattle.reading.proofs.fields.read_message.Goals as goal
 
@@ -9,12 +6,10 @@ pub returns-then-bytes-ne-RECEIVE_LEN : goal.returns-then-bytes-ne-RECEIVE_LEN
 unfolding message_in
 returns-then-bytes-ne-RECEIVE_LEN c = search rules
 
-pub returns-in_default : goal.returns-in_default
+pub returns-in_err-name : goal.returns-in_err-name
 unfolding message_in
-returns-in_default c = search rules
+returns-in_err-name c = search rules
 
 pub returns : goal.returns
 unfolding message_in
-returns c =
-    let v = c.value_in.ensures ∙ ap signed_number (take_rest c.args.bytes.now (name_len + code_len)) in
-    search rules
+returns c = search rules

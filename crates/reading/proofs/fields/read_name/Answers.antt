@@ -10,9 +10,9 @@ pub returns-then-height-gt-MAX_HEIGHT : goal.returns-then-height-gt-MAX_HEIGHT
 unfolding name_in
 returns-then-height-gt-MAX_HEIGHT c = search rules
 
-pub returns-in_default : goal.returns-in_default
+pub returns-in_err-sender : goal.returns-in_err-sender
 unfolding name_in
-returns-in_default c = search rules
+returns-in_err-sender c = search rules
 
 pub returns : goal.returns
 unfolding name_in

@@ -1,5 +1,5 @@
-use Rattle.std.proofs.Common.{◌≡◌, eqb, take, Decides}
+use Rattle.std.proofs.Common.{◌≡◌, eqb, length, take, Decides}
 use Rattle.seals.proofs.tags.is_tag.Given as goal
 
-abbrev pub invariant-loop-i : goal.invariant-loop-i
-invariant-loop-i l = Decides (eqb l.difference 0) (take l.i l.seal ≡ take l.i l.tag)
+abbrev pub invariant-loop-x : goal.invariant-loop-x
+invariant-loop-x l = Decides (eqb l.difference 0) (take (length l.yielded) l.seal ≡ take (length l.yielded) l.tag)
