@@ -9,17 +9,17 @@ ghost use Rattle.calls.specs.Arrivals.{load_marks};
 ghost use Rattle.protocol.specs.Calls.{Ends, arrival, deliver as spec_deliver, made, message_of, new_record, record_or_new, unopened, with_owner};
 ghost use Rattle.faults.specs.Refusals.{call_answer};
 
-use crate::records::{NO_DIGEST, new_record};
+use crate::records::new_record;
 use applications::Application;
-use books::{Books, Load, Mark, NewRows, Outgoing, Record, Sign};
+use books::{Books, Load, Mark, NewRows, Outgoing, Record};
 use faults::CallFault;
-use format::{Digest, Identifier, Key, Message, Name};
+use format::{Digest, Height, Identifier, Key, Message, Name};
 
 // Whether the chain has no owner and no block.
 fn is_unopened(row: &Record) -> bool
     ensures { result ≡ unopened (record_value row.now) }
 {
-    row.owner.0 == 0 && row.next.0 == 0
+    row.owner == Key(0) && row.next == Height(0)
 }
 
 // Sets the owner of a chain whose record is there, where it has none and no block.
@@ -39,19 +39,11 @@ fn settle<B: Books>(books: &mut B, target: Identifier, message: Message)
     ensures change { Changed (B.Books.meaning books.old) (if (B.Books.meaning books.old).rows.marked (marking (identifier_value target) (message_value message) minus) then remove_mark (marking (identifier_value target) (message_value message) minus) ∷ [] else put_mark (marking (identifier_value target) (message_value message) plus) ∷ []) (B.Books.meaning books.new) }
     ensures rest { B.Books.outside books.new ≡ B.Books.outside books.old }
 {
-    let minus = Mark {
-        target,
-        message,
-        sign: Sign::Minus,
-    };
+    let minus = Mark::minus(target, message);
     if books.has_mark(&minus) {
         books.remove_mark(&minus);
     } else {
-        let _ = books.put_mark(Mark {
-            target,
-            message,
-            sign: Sign::Plus,
-        });
+        let _ = books.put_mark(Mark::plus(target, message));
     }
 }
 
@@ -97,17 +89,10 @@ fn new_marks<B: Books>(books: &B, row: &Outgoing) -> usize
         return 0;
     };
     let message = message_of(row, code, value);
-    let minus = Mark {
-        target: row.target,
-        message,
-        sign: Sign::Minus,
-    };
-    let plus = Mark {
-        target: row.target,
-        message,
-        sign: Sign::Plus,
-    };
-    usize::from(!books.has_mark(&minus) && !books.has_mark(&plus))
+    usize::from(
+        !books.has_mark(&Mark::minus(row.target, message))
+            && !books.has_mark(&Mark::plus(row.target, message)),
+    )
 }
 
 // What an outgoing row does at its target, whose record is the one found.
@@ -139,12 +124,12 @@ pub fn deliver<A: Application, B: Books>(books: &mut B, name: &Name) -> Result<D
     let new = NewRows {
         records: usize::from(found.is_none()),
         marks: new_marks(books, &row),
-        outgoing: 0,
+        ..NewRows::NONE
     };
     if !books.fits(&row.target, new) {
         return Err(CallFault::NoPlace);
     }
     arrive::<A, B>(books, &row, found);
     books.remove_outgoing(name);
-    Ok(NO_DIGEST)
+    Ok(Digest::ZERO)
 }

@@ -9,7 +9,7 @@ ghost use Rattle.faults.specs.Refusals.{call_answer};
 ghost use Rattle.protocol.specs.Execution.{key_allowed};
 ghost use Rattle.protocol.specs.Calls.{Ends, max_roots, root_of, root_records, roots_allowed, roots_fit, start as spec_start};
 
-use crate::records::{NO_DIGEST, new_record};
+use crate::records::new_record;
 use applications::Application;
 use books::{Books, NewRows, Side};
 use committee::{Member, is_committee};
@@ -40,8 +40,7 @@ fn roots_fit<B: Books>(books: &B, roots: &[Key]) -> bool
 {
     let new = NewRows {
         records: roots.len(),
-        marks: 0,
-        outgoing: 0,
+        ..NewRows::NONE
     };
     (0..roots.len()).all(|place| books.fits(&Identifier::root(place as Number), new))
 }
@@ -83,5 +82,5 @@ pub fn start<A: Application, B: Books>(
         return Err(CallFault::NoPlace);
     }
     put_roots::<A, B>(books, roots);
-    Ok(NO_DIGEST)
+    Ok(Digest::ZERO)
 }
