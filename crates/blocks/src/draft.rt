@@ -13,12 +13,12 @@ ghost use Rattle.blocks.specs.Drafts.{Within, beginning, change_value, changes_v
 ghost use Rattle.blocks.specs.Running.{marks_after};
 
 use arrayvec::ArrayVec;
-use books::{Books, Mark, Outgoing, Record, Sign};
+use books::{Books, Mark, Outgoing, Record};
 use format::layout::MAX_COMMANDS;
 use format::{Command, Identifier, Key};
 
 /// A change of a mark.
-#[derive(Clone, Copy)]
+#[derive(Clone, Copy, PartialEq, Eq, Debug)]
 pub enum Change {
     Put(Mark),
     Removed(Mark),
@@ -49,7 +49,7 @@ impl Default for Change {
 }
 
 /// What commands change in their chain.
-#[derive(Clone, Copy)]
+#[derive(Clone, Copy, PartialEq, Eq, Debug)]
 pub struct State {
     pub owner: Key,
     pub a: i64,
@@ -57,7 +57,7 @@ pub struct State {
 }
 
 /// A command that ran: the chain after it, and the row that it sends.
-#[derive(Clone, Copy)]
+#[derive(Clone, Copy, PartialEq, Eq, Debug)]
 pub struct Ran {
     pub state: State,
     pub sent: Option<Outgoing>,
@@ -140,19 +140,11 @@ impl Draft {
         let Command::Receive { message } = *command else {
             return None;
         };
-        let plus = Mark {
-            target: chain,
-            message,
-            sign: Sign::Plus,
-        };
+        let plus = Mark::plus(chain, message);
         if shows(&self.changes, &plus, books.has_mark(&plus)) {
             Some(Change::Removed(plus))
         } else {
-            Some(Change::Put(Mark {
-                target: chain,
-                message,
-                sign: Sign::Minus,
-            }))
+            Some(Change::Put(Mark::minus(chain, message)))
         }
     }
 }

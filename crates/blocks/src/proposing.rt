@@ -24,7 +24,7 @@ use applications::Application;
 use books::{Books, Record};
 use committee::{Member, is_committee};
 use faults::CallFault;
-use format::{Digest, Identifier};
+use format::{Digest, Identifier, Key};
 use reading::{Head, Request, read_request};
 use seals::Seals;
 
@@ -35,7 +35,7 @@ pub(crate) fn owned_record<B: Books>(books: &B, chain: &Identifier) -> Result<Re
 {
     books
         .record(chain)
-        .filter(|row| row.owner.0 != 0)
+        .filter(|row| row.owner != Key(0))
         .ok_or(CallFault::NoOwner)
 }
 
@@ -43,10 +43,10 @@ pub(crate) fn owned_record<B: Books>(books: &B, chain: &Identifier) -> Result<Re
 pub(crate) fn check_turn(row: &Record, head: &Head) -> Result<(), CallFault>
     ensures { check_answer result ≡ in_turn (record_value row.now).chain (block_of (head_value head.now) []) }
 {
-    if head.height.0 > row.next.0 {
+    if head.height > row.next {
         return Err(CallFault::HeightAbove);
     }
-    if head.height.0 < row.next.0 {
+    if head.height < row.next {
         return Err(CallFault::HeightBelow);
     }
     if head.previous != row.last {

@@ -1,6 +1,8 @@
 -- What the arrival of an outgoing row needs, and that it then goes in.
-use Rattle.std.proofs.Common.{◌≡◌, ℕ, Bool, true, false, cond, ◌||◌, [], ◌∷◌, ◌++◌, ℤ, Some, None, Option, sym, refl, ap, ◌∙◌, subst}
-use Rattle.std.proofs.lemmas.Bool.{cond-true}
+use Rattle.std.proofs.Common.{◌≡◌, ℕ, Bool, true, false, cond, not, is_some, ◌||◌, [], ◌∷◌, ◌++◌, ℤ, Some, None, Option, sym, refl, ap, ◌∙◌, subst}
+use Rattle.std.specs.Option.{option_map}
+use Rattle.std.specs.Int.{from_bool}
+use Rattle.std.proofs.lemmas.Bool.{cond-true, false≢true}
 use Rattle.format.specs.Values.{IdentifierValue, NameValue}
 use Rattle.format.specs.Rules.{zero_digest}
 use Rattle.format.specs.Outcomes.{Passed}
@@ -63,6 +65,13 @@ settles A m m' c k laws laws' p q h e = by_record (m.rows.record_at c) h e
         let n = h'.0 in
         let f = needed_left m (put_record c (new_record A 0)) (k ∷ []) n laws h'.1 c e' in
         last (subst (λ (z : BooksValue). z.fits c (needed z.rows (k ∷ [])) ≡ true) (sym h'.2) f)
+
+-- a record that was not found is a new one
+pub missing_is : {X Y : Type 0} (f : X → Y) (found : Option X) (at : Option Y) (t : Bool) → is_some found ≡ not t → option_map f found ≡ at → from_bool t ≡ missing at
+missing_is f None at true p e = ap missing e
+missing_is f None at false p e = absurd (false≢true p)
+missing_is f (Some x) at true p e = absurd (false≢true (sym p))
+missing_is f (Some x) at false p e = ap missing e
 
 -- what fits for the counts fits for the arrival
 pub placed : (A : ApplicationValue) (m : BooksValue) (n : NameValue) (o : OutgoingValue) (x : Counts) → x ≡ arrival_counts m.rows n o → m.fits o.target x ≡ true

@@ -1,8 +1,10 @@
 -- Roots, one by one: their keys, their places, and their records.
 use Rattle.std.proofs.Common.{◌≡◌, ℕ, ◌+◌, ◌-◌, ◌<◌, ◌≤◌, Bool, true, false, cond, not, ◌&&◌, leb, List, [], ◌∷◌, length, get_or, drop, sym, refl, ap, ◌∙◌, subst, arith}
 use lib.ListN.{length-map}
+use Rattle.std.specs.List.{list_all, range_with_len}
+use Rattle.std.proofs.lemmas.List.Folds.{list_all-map}
 use Rattle.std.proofs.lemmas.List.{at_drop_more, at_drop_all}
-use Rattle.std.proofs.lemmas.Bool.{and_parts, and_from, and_left, and_right, or_right, le-leb, lt-leb, leb-true}
+use Rattle.std.proofs.lemmas.Bool.{and_parts, and_from, or_right, le-leb, leb-true}
 use Rattle.format.specs.Values.{IdentifierValue}
 use Rattle.format.specs.Rules.{zero_digest}
 use Rattle.format.specs.Outcomes.{refusal, Refused, Passed}
@@ -22,10 +24,6 @@ abbrev pub no_key : Key
 no_key = record { 0 = 0 }
 
 module _ (ks : List Key) (i : ℕ) (d : Key) where
-  pub keys_more : (C : CommitteeValue) → i < length ks
-      → root_keys_allowed C (keys_value (drop i ks)) ≡ (key_allowed C (get_or ks i d).0 && root_keys_allowed C (keys_value (drop (i + 1) ks)))
-  keys_more C h = at_drop_more (λ xs. root_keys_allowed C (keys_value xs)) ks i d h
-
   pub fit_more : (B : BooksValue) (n : ℕ) → i < length ks
       → roots_fit B n i (keys_value (drop i ks)) ≡ (B.fits (root_of i) (counts n 0 0) && roots_fit B n (i + 1) (keys_value (drop (i + 1) ks)))
   fit_more B n h = at_drop_more (λ xs. roots_fit B n i (keys_value xs)) ks i d h
@@ -35,14 +33,16 @@ module _ (ks : List Key) (i : ℕ) (d : Key) where
   records_more A h = at_drop_more (λ xs. root_records A i (keys_value xs)) ks i d h
 
 module _ (ks : List Key) (i : ℕ) (h : length ks ≤ i) where
-  pub keys_all : (C : CommitteeValue) → root_keys_allowed C (keys_value (drop i ks)) ≡ true
-  keys_all C = at_drop_all (λ xs. root_keys_allowed C (keys_value xs)) ks i h
-
   pub fit_all : (B : BooksValue) (n : ℕ) → roots_fit B n i (keys_value (drop i ks)) ≡ true
   fit_all B n = at_drop_all (λ xs. roots_fit B n i (keys_value xs)) ks i h
 
   pub records_all : (A : ApplicationValue) → root_records A i (keys_value (drop i ks)) ≡ []
   records_all A = at_drop_all (λ xs. root_records A i (keys_value xs)) ks i h
+
+-- the places, one by one
+pub fit_places : (B : BooksValue) (n k : ℕ) (ks : List Key) → roots_fit B n k (keys_value ks) ≡ list_all (λ i. B.fits (root_of i) (counts n 0 0)) (range_with_len k (length ks))
+fit_places B n k [] = refl
+fit_places B n k (x ∷ ks) = ap (λ t. B.fits (root_of k) (counts n 0 0) && t) (fit_places B n (k + 1) ks)
 
 -- one record more takes at most one place of each chain
 module _ (m m' : BooksValue) (laws : Laws m) (c : IdentifierValue) (r : RecordValue) (s : Step m (put_record c r) m') where
@@ -66,16 +66,10 @@ root_goes m laws c r n h e =
 
 -- ---- the count of roots, which is that of their keys
 module _ (C : CommitteeValue) (ks : List Key) where
-  pub no_roots : length ks < 1 → false ≡ roots_allowed C (keys_value ks)
-  no_roots h = sym (and_left _ _ (and_left _ _ (lt-leb 1 (length (keys_value ks)) (simp length-map (omega arith)))))
-
-  pub many_roots : max_roots < length ks → false ≡ roots_allowed C (keys_value ks)
-  many_roots h = sym (and_left _ _ (and_right (leb 1 (length (keys_value ks))) _ (lt-leb (length (keys_value ks)) max_roots (simp length-map (omega arith)))))
-
-  pub some_roots : (r : Bool) → 1 ≤ length ks → length ks ≤ max_roots → r ≡ root_keys_allowed C (keys_value ks) → r ≡ roots_allowed C (keys_value ks)
+  pub some_roots : (r : Bool) → 1 ≤ length ks → length ks ≤ max_roots → r ≡ list_all (λ k. key_allowed C k.0) ks → r ≡ roots_allowed C (keys_value ks)
   some_roots r h k e =
       let n : length (keys_value ks) ≡ length ks = length-map ks (λ x. x.0) in
-      e ∙ sym (ap (λ t. t && root_keys_allowed C (keys_value ks)) (and_from _ _ (le-leb 1 (length (keys_value ks)) (omega arith)) (le-leb (length (keys_value ks)) max_roots (omega arith))))
+      e ∙ sym (list_all-map (key_allowed C) (λ k. k.0) ks) ∙ sym (ap (λ t. t && root_keys_allowed C (keys_value ks)) (and_from _ _ (le-leb 1 (length (keys_value ks)) (omega arith)) (le-leb (length (keys_value ks)) max_roots (omega arith))))
 
   pub few_roots : true ≡ roots_allowed C (keys_value ks) → length ks ≤ max_roots
   few_roots e =

@@ -3,23 +3,23 @@ ghost use Rattle.std.specs.Prelude.{◌≡◌, true, false, ◌&&◌, [], ◌∷
 ghost use Rattle.std.specs.Option.{option_map};
 ghost use Rattle.format.specs.Meaning.{identifier_value, message_value, name_value};
 ghost use Rattle.books.specs.Books.{Changed, goes, needed, put_mark, put_record, remove_mark};
-ghost use Rattle.books.specs.Meaning.{counts_value, outgoing_key, outgoing_value, record_key, record_value};
+ghost use Rattle.books.specs.Meaning.{load_value, outgoing_key, outgoing_value, record_key, record_value};
 ghost use Rattle.books.specs.Values.{marking, minus, plus};
-ghost use Rattle.calls.specs.Arrivals.{arrival_counts, new_marks};
+ghost use Rattle.calls.specs.Arrivals.{load_marks};
 ghost use Rattle.protocol.specs.Calls.{Ends, arrival, deliver as spec_deliver, made, message_of, new_record, record_or_new, unopened, with_owner};
 ghost use Rattle.faults.specs.Refusals.{call_answer};
 
-use crate::records::{NO_DIGEST, new_record};
+use crate::records::new_record;
 use applications::Application;
-use books::{Books, Load, Mark, NewRows, Outgoing, Record, Sign};
+use books::{Books, Load, Mark, NewRows, Outgoing, Record};
 use faults::CallFault;
-use format::{Digest, Identifier, Key, Message, Name};
+use format::{Digest, Height, Identifier, Key, Message, Name};
 
 // Whether the chain has no owner and no block.
 fn is_unopened(row: &Record) -> bool
     ensures { result ≡ unopened (record_value row.now) }
 {
-    row.owner.0 == 0 && row.next.0 == 0
+    row.owner == Key(0) && row.next == Height(0)
 }
 
 // Sets the owner of a chain whose record is there, where it has none and no block.
@@ -29,9 +29,7 @@ fn open<B: Books>(books: &mut B, row: Record, key: Key)
     ensures rest { B.Books.outside books.new ≡ B.Books.outside books.old }
 {
     if is_unopened(&row) {
-        let mut opened = row;
-        opened.owner = key;
-        let _ = books.put_record(opened);
+        let _ = books.put_record(Record { owner: key, ..row });
     }
 }
 
@@ -41,19 +39,11 @@ fn settle<B: Books>(books: &mut B, target: Identifier, message: Message)
     ensures change { Changed (B.Books.meaning books.old) (if (B.Books.meaning books.old).rows.marked (marking (identifier_value target) (message_value message) minus) then remove_mark (marking (identifier_value target) (message_value message) minus) ∷ [] else put_mark (marking (identifier_value target) (message_value message) plus) ∷ []) (B.Books.meaning books.new) }
     ensures rest { B.Books.outside books.new ≡ B.Books.outside books.old }
 {
-    let minus = Mark {
-        target,
-        message,
-        sign: Sign::Minus,
-    };
+    let minus = Mark::minus(target, message);
     if books.has_mark(&minus) {
         books.remove_mark(&minus);
     } else {
-        let _ = books.put_mark(Mark {
-            target,
-            message,
-            sign: Sign::Plus,
-        });
+        let _ = books.put_mark(Mark::plus(target, message));
     }
 }
 
@@ -81,27 +71,6 @@ fn make_target<A: Application, B: Books>(
     }
 }
 
-// How many new marks the message needs at its target.
-fn new_marks<B: Books>(books: &B, target: Identifier, message: Message) -> usize
-    ensures { result ≡ new_marks (B.Books.meaning books.now).rows (identifier_value target) (message_value message) }
-{
-    let minus = Mark {
-        target,
-        message,
-        sign: Sign::Minus,
-    };
-    let plus = Mark {
-        target,
-        message,
-        sign: Sign::Plus,
-    };
-    if books.has_mark(&minus) || books.has_mark(&plus) {
-        0
-    } else {
-        1
-    }
-}
-
 fn message_of(row: &Outgoing, code: u8, value: i64) -> Message
     ensures { message_value result ≡ message_of (outgoing_key row.now) code value }
 {
@@ -112,24 +81,18 @@ fn message_of(row: &Outgoing, code: u8, value: i64) -> Message
     }
 }
 
-// The new rows that an outgoing row needs at its target, whose record is the one found.
-fn arrival_rows<B: Books>(books: &B, row: &Outgoing, found: Option<Record>) -> NewRows
-    requires { option_map record_value found ≡ (B.Books.meaning books.now).rows.record_at (identifier_value row.now.target) }
-    ensures { counts_value result ≡ arrival_counts (B.Books.meaning books.now).rows (outgoing_key row.now) (outgoing_value row.now) }
+// How many new marks an outgoing row needs at its target.
+fn new_marks<B: Books>(books: &B, row: &Outgoing) -> usize
+    ensures { result ≡ load_marks (B.Books.meaning books.now).rows (outgoing_key row.now) (identifier_value row.now.target) (load_value row.now.load) }
 {
-    let records = match found {
-        Some(_) => 0,
-        None => 1,
+    let Load::Sent { code, value } = row.load else {
+        return 0;
     };
-    let marks = match row.load {
-        Load::Opening { key: _ } => 0,
-        Load::Sent { code, value } => new_marks(books, row.target, message_of(row, code, value)),
-    };
-    NewRows {
-        records,
-        marks,
-        outgoing: 0,
-    }
+    let message = message_of(row, code, value);
+    usize::from(
+        !books.has_mark(&Mark::minus(row.target, message))
+            && !books.has_mark(&Mark::plus(row.target, message)),
+    )
 }
 
 // What an outgoing row does at its target, whose record is the one found.
@@ -158,11 +121,15 @@ pub fn deliver<A: Application, B: Books>(books: &mut B, name: &Name) -> Result<D
         return Err(CallFault::NoOutgoing);
     };
     let found = books.record(&row.target);
-    let new = arrival_rows(books, &row, found);
+    let new = NewRows {
+        records: usize::from(found.is_none()),
+        marks: new_marks(books, &row),
+        ..NewRows::NONE
+    };
     if !books.fits(&row.target, new) {
         return Err(CallFault::NoPlace);
     }
     arrive::<A, B>(books, &row, found);
     books.remove_outgoing(name);
-    Ok(NO_DIGEST)
+    Ok(Digest::ZERO)
 }

@@ -6,13 +6,7 @@ ghost use Rattle.protocol.specs.Calls.{new_record};
 
 use applications::Application;
 use books::Record;
-use format::layout::DIGEST_LEN;
 use format::{Digest, Height, Identifier, Key};
-
-/// The digest of a chain that has no block.
-pub(crate) const NO_DIGEST: Digest = Digest {
-    bytes: [0; DIGEST_LEN],
-};
 
 // The record of a chain that has no block.
 pub(crate) fn new_record<A: Application>(chain: Identifier, owner: Key) -> Record
@@ -24,7 +18,7 @@ pub(crate) fn new_record<A: Application>(chain: Identifier, owner: Key) -> Recor
         identifier: chain,
         owner,
         next: Height(0),
-        last: NO_DIGEST,
+        last: Digest::ZERO,
         a,
         b,
         vote: None,

@@ -1,13 +1,15 @@
 //! Starting books with the records of the roots.
 ghost use Rattle.std.specs.Prelude.{◌≡◌, ◌+◌, ◌<◌, ◌≤◌, true, map, length};
+ghost use Rattle.std.specs.List.{list_all, range_with_len};
 ghost use Rattle.books.specs.Books.{Changed};
 ghost use Rattle.books.specs.Counts.{counts};
 ghost use Rattle.calls.specs.Roots.{keys_value};
 ghost use Rattle.committee.specs.Meaning.{members_value};
 ghost use Rattle.faults.specs.Refusals.{call_answer};
-ghost use Rattle.protocol.specs.Calls.{Ends, max_roots, root_keys_allowed, root_of, root_records, roots_allowed, roots_fit, start as spec_start};
+ghost use Rattle.protocol.specs.Execution.{key_allowed};
+ghost use Rattle.protocol.specs.Calls.{Ends, max_roots, root_of, root_records, roots_allowed, roots_fit, start as spec_start};
 
-use crate::records::{NO_DIGEST, new_record};
+use crate::records::new_record;
 use applications::Application;
 use books::{Books, NewRows, Side};
 use committee::{Member, is_committee};
@@ -20,41 +22,27 @@ use protocol::is_owner_key;
 pub const MAX_ROOTS: usize = 64;
 
 fn are_root_keys(members: &[Member], roots: &[Key]) -> bool
-    ensures { result ≡ root_keys_allowed (members_value members.now) (keys_value roots.now) }
+    ensures { result ≡ list_all (λ k. key_allowed (members_value members.now) k.0) roots.now }
 {
-    for root in roots {
-        if !is_owner_key(members, *root) {
-            return false;
-        }
-    }
-    true
+    roots.iter().all(|root| is_owner_key(members, *root))
 }
 
 fn are_roots(members: &[Member], roots: &[Key]) -> bool
     ensures { result ≡ roots_allowed (members_value members.now) (keys_value roots.now) }
 {
-    if roots.len() < 1 || roots.len() > MAX_ROOTS {
-        return false;
-    }
-    are_root_keys(members, roots)
+    !roots.is_empty() && roots.len() <= MAX_ROOTS && are_root_keys(members, roots)
 }
 
 // Whether the chain of each root fits as many records as there are roots.
 fn roots_fit<B: Books>(books: &B, roots: &[Key]) -> bool
     requires { length roots.now ≤ max_roots }
-    ensures { result ≡ roots_fit (B.Books.meaning books.now) (length roots.now) 0 (keys_value roots.now) }
+    ensures { result ≡ list_all (λ k. (B.Books.meaning books.now).fits (root_of k) (counts (length roots.now) 0 0)) (range_with_len 0 (length roots.now)) }
 {
     let new = NewRows {
         records: roots.len(),
-        marks: 0,
-        outgoing: 0,
+        ..NewRows::NONE
     };
-    for (place, _) in roots.iter().enumerate() {
-        if !books.fits(&Identifier::root(place as Number), new) {
-            return false;
-        }
-    }
-    true
+    (0..roots.len()).all(|place| books.fits(&Identifier::root(place as Number), new))
 }
 
 // Puts the record of each root.
@@ -94,5 +82,5 @@ pub fn start<A: Application, B: Books>(
         return Err(CallFault::NoPlace);
     }
     put_roots::<A, B>(books, roots);
-    Ok(NO_DIGEST)
+    Ok(Digest::ZERO)
 }

@@ -3,7 +3,6 @@
 
 ghost use Rattle.std.specs.Prelude.{◌≡◌};
 ghost use Rattle.format.specs.Meaning.{refusal_value};
-ghost use Rattle.format.specs.Outcomes.{refusal, refusal_at};
 ghost use Rattle.faults.specs.Refusals.{call_refusal, CarriesApplication, CarriesCommand, CarriesReading, command_refusal};
 
 use applications::ApplicationFault;
@@ -37,7 +36,7 @@ pub struct AtCommand {
 /// Why a call is refused. Members and seals are named by the place of the seal, from 0.
 #[derive(Clone, Copy, PartialEq, Eq, Debug, Error)]
 pub enum CallFault {
-    #[error("the frame or its block is not read")]
+    #[error(transparent)]
     Reading(ReadFault),
     #[error("seal {0}: its member is outside the committee, or not above the one before")]
     Member(usize),
@@ -97,22 +96,6 @@ impl From<ReadFault> for CallFault {
     }
 }
 
-fn refusal(number: u8) -> Refusal
-    ensures { refusal_value result ≡ refusal number }
-{
-    refusal_at(number, 0)
-}
-
-fn refusal_at(number: u8, place: usize) -> Refusal
-    ensures { refusal_value result ≡ refusal_at number place }
-{
-    Refusal {
-        number,
-        place,
-        inner: 0,
-    }
-}
-
 // The numbers 1 to 25 are the format of a call's answer.
 impl From<AtCommand> for Refusal {
     ghost from_gives = { λ at gives. refusal_value gives ≡ command_refusal at.place at.fault };
@@ -120,10 +103,10 @@ impl From<AtCommand> for Refusal {
     fn from(at: AtCommand) -> Refusal {
         let place = at.place;
         match at.fault {
-            CommandFault::AfterClose => refusal_at(13, place),
-            CommandFault::Key => refusal_at(14, place),
-            CommandFault::Child => refusal_at(15, place),
-            CommandFault::SecondOpen => refusal_at(16, place),
+            CommandFault::AfterClose => Refusal::at(13, place),
+            CommandFault::Key => Refusal::at(14, place),
+            CommandFault::Child => Refusal::at(15, place),
+            CommandFault::SecondOpen => Refusal::at(16, place),
             CommandFault::Application(fault) => Refusal {
                 number: 17,
                 place,
@@ -138,23 +121,23 @@ impl From<CallFault> for Refusal {
 
     fn from(fault: CallFault) -> Refusal {
         match fault {
-            CallFault::Reading(unread) => unread.refusal(),
-            CallFault::Member(place) => refusal_at(4, place),
-            CallFault::Seal(place) => refusal_at(5, place),
-            CallFault::Weight => refusal(6),
-            CallFault::NoOwner => refusal(7),
-            CallFault::OwnerSeal => refusal(8),
-            CallFault::HeightAbove => refusal(9),
-            CallFault::HeightBelow => refusal(10),
-            CallFault::Previous => refusal(11),
-            CallFault::Voted => refusal(12),
+            CallFault::Reading(unread) => unread.into(),
+            CallFault::Member(place) => Refusal::at(4, place),
+            CallFault::Seal(place) => Refusal::at(5, place),
+            CallFault::Weight => Refusal::numbered(6),
+            CallFault::NoOwner => Refusal::numbered(7),
+            CallFault::OwnerSeal => Refusal::numbered(8),
+            CallFault::HeightAbove => Refusal::numbered(9),
+            CallFault::HeightBelow => Refusal::numbered(10),
+            CallFault::Previous => Refusal::numbered(11),
+            CallFault::Voted => Refusal::numbered(12),
             CallFault::Command(at) => at.into(),
-            CallFault::MinusMarks => refusal(18),
-            CallFault::NoPlace => refusal(19),
-            CallFault::NoOutgoing => refusal(20),
-            CallFault::Committee => refusal(21),
-            CallFault::Roots => refusal(22),
-            CallFault::NotBlank => refusal(23),
+            CallFault::MinusMarks => Refusal::numbered(18),
+            CallFault::NoPlace => Refusal::numbered(19),
+            CallFault::NoOutgoing => Refusal::numbered(20),
+            CallFault::Committee => Refusal::numbered(21),
+            CallFault::Roots => Refusal::numbered(22),
+            CallFault::NotBlank => Refusal::numbered(23),
         }
     }
 }

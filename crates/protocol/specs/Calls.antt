@@ -1,5 +1,6 @@
 -- What each call answers, and what it leaves in the books.
 use Rattle.std.specs.Prelude.{◌≡◌, ℕ, zero, suc, ◌+◌, Bool, true, false, cond, not, ◌&&◌, ◌||◌, List, [], ◌∷◌, ◌++◌, map, length, ℤ, Some, None, Option, ◌==◌, nat_le}
+use Rattle.std.specs.List.{list_all}
 use Rattle.format.specs.Values.{IdentifierValue, DigestValue, NameValue, MessageValue, BlockValue}
 use Rattle.format.specs.Rules.{zero_digest}
 use Rattle.format.specs.Same.{same_digest}
@@ -209,8 +210,7 @@ abbrev pub max_roots : ℕ
 max_roots = 64
 
 abbrev pub root_keys_allowed : CommitteeValue → List ℕ → Bool
-root_keys_allowed C [] = true
-root_keys_allowed C (o ∷ os) = key_allowed C o && root_keys_allowed C os
+root_keys_allowed C = list_all (key_allowed C)
 
 abbrev pub roots_allowed : CommitteeValue → List ℕ → Bool
 roots_allowed C roots = (nat_le 1 (length roots) && nat_le (length roots) max_roots) && root_keys_allowed C roots

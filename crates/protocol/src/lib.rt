@@ -12,5 +12,5 @@ use format::Key;
 pub fn is_owner_key(members: &[Member], key: Key) -> bool
     ensures { result ≡ key_allowed (members_value members.now) key.0 }
 {
-    key.0 != 0 && !is_member_key(members, key)
+    key != Key(0) && !is_member_key(members, key)
 }

@@ -10,4 +10,4 @@ unfolding block_digest
 returns c =
     let bs = c.args.block.now in
     let bytes : (i : ℕ) → i < length bs → get_or bs i 0 < 256 = λ i h. search rules in
-    λ b e. c.of.ensures ∙ ap sha256_of (round_trip.only bs (All-from_get_or (λ x. x < 256) bs 0 bytes) b e)
+    λ b e. c.of.ensures.value ∙ ap sha256_of (round_trip.only bs (All-from_get_or (λ x. x < 256) bs 0 bytes) b e)

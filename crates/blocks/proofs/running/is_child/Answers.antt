@@ -11,4 +11,4 @@ returns-then-parent-lt-MAX_DEPTH c =
     let t = c.is_some_and.result in
     let m : MatchOption c.strip_prefix.result (t ≡ false) (λ x. t ≡ bytes_eq x.now (h ∷ [])) = search rules in
     child_stripped c.numbers-parent.result.now c.numbers.result.now h t c.strip_prefix.result c.if-parent-lt-MAX_DEPTH.true c.strip_prefix.ensures.cases m
-    ∙ (λ i. child_allowed (c.numbers-parent.ensures i) h (c.numbers.ensures i))
+    ∙ (λ i. child_allowed (c.numbers-parent.ensures.value i) h (c.numbers.ensures.value i))
