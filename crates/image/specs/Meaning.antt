@@ -8,7 +8,7 @@ use Rattle.image.specs.declared.image.Image.{Image}
 
 -- the whole memory
 abbrev pub bytes_of : Image → List ℕ
-bytes_of m = m.memory.bytes.now
+bytes_of m = m.bytes.now
 
 -- the books of the rows that the slots hold
 abbrev pub image_value : Image → BooksValue

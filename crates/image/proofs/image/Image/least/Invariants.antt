@@ -4,7 +4,7 @@ use Rattle.books.specs.Meaning.{entry_value}
 use Rattle.books.specs.Sides.{on}
 use Rattle.image.specs.Memory.{cells}
 use Rattle.image.proofs.Waits.{LeastIn}
-use Rattle.image.proofs.memory.least.Given as goal
+use Rattle.image.proofs.image.Image.least.Given as goal
 
-abbrev pub invariant-loop-i : goal.invariant-loop-i
-invariant-loop-i l = LeastIn (on l.side) (take l.i (cells l.bytes)) (option_map entry_value l.best)
+abbrev pub invariant-loop-slot : goal.invariant-loop-slot
+invariant-loop-slot l = LeastIn (on l.side) (take l.slot-index (cells l.self.bytes.now)) (option_map entry_value l.best)
