@@ -4,7 +4,7 @@ use lib.ListN.{length-replicate}
 use Rattle.std.proofs.lemmas.List.{drop_at, drop-drop, drop-replicate}
 use Rattle.format.specs.Writing.{written}
 use Rattle.slots.specs.Layout.{slot_len}
-use Rattle.slots.specs.Written.{written as written_bytes, Adds}
+use Rattle.slots.specs.Written.{Adds, contents}
 use Rattle.slots.specs.declared.writer.Writer.{Writer}
 use Rattle.slots.specs.Bytes.{filled}
 
@@ -24,14 +24,14 @@ zeros_behind d x a n l e =
 
 -- ---- bytes that were written one behind the other
 pub adds_as : {n : ℕ} {w w' : Writer n} {x y : List ℕ} → Adds w x w' → x ≡ y → Adds w y w'
-adds_as {n} {w} a h = record { added = a.added ∙ ap (λ z. written_bytes w ++ z) h }
+adds_as {n} {w} a h = record { added = a.added ∙ ap (λ z. contents w ++ z) h }
 
 pub adds_then : {n : ℕ} {w w₁ w₂ : Writer n} {x y : List ℕ} → Adds w x w₁ → Adds w₁ y w₂ → Adds w (x ++ y) w₂
-adds_then {n} {w} {w₁} {w₂} {x} {y} a b = record { added = b.added ∙ ap (λ z. z ++ y) a.added ∙ append_assoc (written_bytes w) x y }
+adds_then {n} {w} {w₁} {w₂} {x} {y} a b = record { added = b.added ∙ ap (λ z. z ++ y) a.added ∙ append_assoc (contents w) x y }
 
 -- all that was written, in a slot of zeros
-pub adds_filled : {w w' : Writer slot_len} {x s : List ℕ} → written_bytes w ≡ [] → Adds w x w' → s ≡ filled (written_bytes w') → s ≡ filled x
+pub adds_filled : {w w' : Writer slot_len} {x s : List ℕ} → contents w ≡ [] → Adds w x w' → s ≡ filled (contents w') → s ≡ filled x
 adds_filled {w} {w'} {x} e a f = f ∙ ap filled (a.added ∙ ap (λ z. z ++ x) e)
 
-pub length_added : {n k : ℕ} {w w' : Writer n} {x : List ℕ} → Adds w x w' → length x ≡ k → length (written_bytes w') ≡ length (written_bytes w) + k
-length_added {w = w} {x = x} a e = ap length a.added ∙ length-append (written_bytes w) x ∙ ap (λ k. length (written_bytes w) + k) e
+pub length_added : {n k : ℕ} {w w' : Writer n} {x : List ℕ} → Adds w x w' → length x ≡ k → length (contents w') ≡ length (contents w) + k
+length_added {w = w} {x = x} a e = ap length a.added ∙ length-append (contents w) x ∙ ap (λ k. length (contents w) + k) e

@@ -9,7 +9,7 @@ use Rattle.slots.specs.Kinds.{kind_byte}
 use Rattle.slots.specs.Rows.{RowKey, by_identifier, by_mark, by_name}
 use Rattle.slots.specs.Bytes.{sign_byte}
 use Rattle.slots.specs.Reading.{kind_of, field}
-use Rattle.slots.specs.Written.{written}
+use Rattle.slots.specs.Written.{contents}
 use Rattle.slots.specs.declared.prefix.Prefix.{Prefix}
 
 -- a first byte from `first` to `last`, and then these bytes
@@ -22,7 +22,7 @@ abbrev pub prefix : ℕ → ℕ → List ℕ → PrefixValue
 prefix first last bytes = record { first = first; last = last; bytes = bytes }
 
 abbrev pub prefix_value : Prefix → PrefixValue
-prefix_value p = prefix (kind_byte p.first) (kind_byte p.last) (written p.key)
+prefix_value p = prefix (kind_byte p.first) (kind_byte p.last) (contents p.key)
 
 abbrev pub begins : PrefixValue → List ℕ → Bool
 begins p s =

@@ -13,7 +13,7 @@ ghost use Rattle.slots.specs.Layout.{max_prefix_len, slot_len, vote_byte_len};
 ghost use Rattle.slots.specs.Meaning.{held_mark, held_outgoing, held_record};
 ghost use Rattle.slots.specs.Prefixes.{mark_key_bytes};
 ghost use Rattle.slots.specs.RoundTrip.{LoadFits, MarkFits, MessageFits, NameFits, RowFits, RowsReadBack, VoteFits};
-ghost use Rattle.slots.specs.Written.{Adds, written};
+ghost use Rattle.slots.specs.Written.{Adds, contents};
 
 use crate::kind::Kind;
 use crate::layout::{SLOT_LEN, VOTE_BYTE_LEN, VOTED};
@@ -63,7 +63,7 @@ fn value_bytes(value: i64) -> [u8; VALUE_LEN]
 
 #[tactic(auto, unfolding(format::specs::Bytes::name_bytes))]
 pub(crate) fn add_name<const N: usize>(writer: &mut Writer<N>, name: &Name)
-    requires { length (written writer.old) + name_len ≤ N }
+    requires { length (contents writer.old) + name_len ≤ N }
     ensures wrote { Adds writer.old (name_bytes (name_value name.now)) writer.new }
     ensures fits { NameFits (name_value name.now) }
 {
@@ -74,7 +74,7 @@ pub(crate) fn add_name<const N: usize>(writer: &mut Writer<N>, name: &Name)
 
 #[tactic(auto, using(format::proofs::Lengths::length_name))]
 fn add_message<const N: usize>(writer: &mut Writer<N>, message: &Message)
-    requires { length (written writer.old) + receive_len ≤ N }
+    requires { length (contents writer.old) + receive_len ≤ N }
     ensures wrote { Adds writer.old (message_bytes (message_value message.now)) writer.new }
     ensures fits { MessageFits (message_value message.now) }
 {
@@ -85,7 +85,7 @@ fn add_message<const N: usize>(writer: &mut Writer<N>, message: &Message)
 
 // A mark's target and message.
 pub(crate) fn add_mark<const N: usize>(writer: &mut Writer<N>, mark: &Mark)
-    requires { length (written writer.old) + max_prefix_len ≤ N }
+    requires { length (contents writer.old) + max_prefix_len ≤ N }
     ensures wrote { Adds writer.old (mark_key_bytes (mark_value mark.now)) writer.new }
     ensures fits { MarkFits (mark_value mark.now) }
 {
@@ -95,7 +95,7 @@ pub(crate) fn add_mark<const N: usize>(writer: &mut Writer<N>, mark: &Mark)
 
 // A byte 1 before the voted digest, or zeros for none.
 fn add_vote(slot: &mut Writer<SLOT_LEN>, vote: Option<Digest>)
-    requires { length (written slot.old) + (vote_byte_len + digest_len) ≤ slot_len }
+    requires { length (contents slot.old) + (vote_byte_len + digest_len) ≤ slot_len }
     ensures wrote { Adds slot.old (vote_bytes (option_map digest_value vote)) slot.new }
     ensures fits { VoteFits (option_map digest_value vote) }
 {
@@ -110,7 +110,7 @@ fn add_vote(slot: &mut Writer<SLOT_LEN>, vote: Option<Digest>)
 
 // An opening's key, or a message's code and value.
 fn add_load(slot: &mut Writer<SLOT_LEN>, load: Load)
-    requires { length (written slot.old) + (code_len + value_len) ≤ slot_len }
+    requires { length (contents slot.old) + (code_len + value_len) ≤ slot_len }
     ensures wrote { Adds slot.old (load_bytes (load_value load)) slot.new }
     ensures fits { LoadFits (load_value load) }
 {

@@ -12,10 +12,10 @@ pub(crate) struct Writer<const N: usize> {
 }
 
 impl<const N: usize> Writer<N> {
-    ghost use Rattle.slots.specs.Written.{Adds, written};
+    ghost use Rattle.slots.specs.Written.{Adds, contents};
 
     pub(crate) fn new() -> Writer<N>
-        ensures { written result ≡ [] }
+        ensures { contents result ≡ [] }
     {
         Writer {
             bytes: [0; N],
@@ -25,14 +25,14 @@ impl<const N: usize> Writer<N> {
 
     // What is written.
     pub(crate) fn as_slice(&self) -> &[u8]
-        ensures { result.now ≡ written self.now }
+        ensures { result.now ≡ contents self.now }
     {
         &self.bytes[..self.len]
     }
 
     // Writes bytes behind the others.
     pub(crate) fn add(&mut self, bytes: &[u8])
-        requires { length (written self.old) + length bytes.now ≤ N }
+        requires { length (contents self.old) + length bytes.now ≤ N }
         ensures { Adds self.old bytes.now self.new }
     {
         let end = self.len + bytes.len();
@@ -43,7 +43,7 @@ impl<const N: usize> Writer<N> {
 
     // All bytes, with the zeros.
     pub(crate) fn into_bytes(self) -> [u8; N]
-        ensures { result ≡ written self.entry ++ replicate (N - length (written self.entry)) 0 }
+        ensures { result ≡ contents self.entry ++ replicate (N - length (contents self.entry)) 0 }
     {
         self.bytes
     }

@@ -4,7 +4,7 @@ ghost use Rattle.format.specs.Identifiers.{Identifies};
 ghost use Rattle.format.specs.Meaning.{identifier_value};
 ghost use Rattle.slots.specs.Kinds.{kind_byte};
 ghost use Rattle.slots.specs.Prefixes.{begins as spec_begins, free_prefix, minus_prefix, prefix, prefix_value};
-ghost use Rattle.slots.specs.Written.{written};
+ghost use Rattle.slots.specs.Written.{contents};
 
 use super::Prefix;
 use crate::kind::Kind;
@@ -14,7 +14,7 @@ use format::Identifier;
 
 impl Prefix {
     pub(crate) fn new(first: Kind, last: Kind, key: Writer<MAX_PREFIX_LEN>) -> Prefix
-        ensures { prefix_value result ≡ prefix (kind_byte first) (kind_byte last) (written key) }
+        ensures { prefix_value result ≡ prefix (kind_byte first) (kind_byte last) (contents key) }
     {
         Prefix { first, last, key }
     }
