@@ -1,5 +1,6 @@
 -- The meaning of books in a lent memory.
 use Rattle.std.specs.Prelude.{◌≡◌, ℕ, List, replicate, None}
+use Rattle.std.specs.Borrow.{GName}
 use Rattle.books.specs.Books.{BooksValue, Laws}
 use Rattle.slots.specs.Cells.{celled}
 use Rattle.slots.proofs.Celled.{celled_laws}
@@ -19,6 +20,10 @@ image_laws m = celled_laws (cells (bytes_of m))
 
 abbrev pub bytes_past : Image → List ℕ
 bytes_past m = past (bytes_of m)
+
+-- the reference to the memory
+abbrev pub lender : Image → GName
+lender m = m.bytes.ghost_name
 
 -- no row, in so many slots
 abbrev pub no_rows : ℕ → BooksValue

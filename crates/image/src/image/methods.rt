@@ -1,6 +1,7 @@
 //! The questions and changes of books, each asked of the slots.
 ghost use Rattle.std.specs.Prelude.{◌≡◌, ℕ, List};
-ghost use Rattle.image.specs.Meaning.{GivenBack, bytes_of, bytes_past, image_laws, image_value, no_rows};
+ghost use Rattle.std.specs.Borrow.{GName};
+ghost use Rattle.image.specs.Meaning.{GivenBack, bytes_of, bytes_past, image_laws, image_value, lender, no_rows};
 ghost use Rattle.image.specs.Memory.{cleared, past, usable};
 
 use super::Image;
@@ -10,11 +11,13 @@ use format::{Identifier, Name};
 use slots::{decode_outgoing, decode_record, encode_mark, encode_outgoing, encode_record};
 
 impl<'a> Image<'a> {
-    /// Books with no row, in a memory whose slots up to the limit are then all zeros.
+    /// Books with no row, in a memory whose slots up to the limit are then all zeros. What the
+    /// books leave in it is what the lender has when the loan ends.
     pub fn new(bytes: &'a mut [u8]) -> Image<'a>
         ensures meaning { image_value result ≡ no_rows (usable bytes.old) }
         ensures memory { bytes_of result ≡ cleared bytes.old }
         ensures rest { bytes_past result ≡ past bytes.old }
+        ensures same_reference { lender result ≡ bytes.entry.ghost_name }
     {
         clear(bytes);
         Image { bytes }
@@ -22,7 +25,8 @@ impl<'a> Image<'a> {
 
     /// Gives the memory back.
     pub fn into_bytes(self) -> &'a mut [u8]
-        ensures { GivenBack self.entry result.now }
+        ensures given { GivenBack self.entry result.now }
+        ensures same_reference { result.ghost_name ≡ lender self.entry }
     {
         self.bytes
     }
@@ -33,9 +37,9 @@ impl<'a> Books for Image<'a> {
 
     ghost laws = { image_laws };
 
-    ghost Outside = { List ℕ };
+    ghost Outside = { List ℕ × GName };
 
-    ghost outside = { bytes_past };
+    ghost outside = { λ m. (bytes_past m, lender m) };
 
     fn record(&self, chain: &Identifier) -> Option<Record> {
         decode_record(self.slot_of(chain)?)

@@ -116,7 +116,8 @@ impl<'a> Image<'a> {
     // free slot; false where there is none.
     pub(super) fn put<K: SlotKey>(&mut self, key: &K, slot: &[u8; SLOT_LEN]) -> bool
         requires { Encodes (K.SlotKey.keyed key.now) slot.now }
-        ensures { PutInto self.old.bytes.now slot.now result self.new.bytes.now }
+        ensures change { PutInto self.old.bytes.now slot.now result self.new.bytes.now }
+        ensures same_reference { self.new.bytes.ghost_name ≡ self.old.bytes.ghost_name }
     {
         let Some(i) = self.slot_for(key) else {
             return false;
@@ -127,7 +128,8 @@ impl<'a> Image<'a> {
 
     // Removes the row with a key, if there is one: its slot is all zeros again.
     pub(super) fn remove<K: SlotKey>(&mut self, key: &K)
-        ensures { RemovedFrom self.old.bytes.now (K.SlotKey.keyed key.now) self.new.bytes.now }
+        ensures change { RemovedFrom self.old.bytes.now (K.SlotKey.keyed key.now) self.new.bytes.now }
+        ensures same_reference { self.new.bytes.ghost_name ≡ self.old.bytes.ghost_name }
     {
         if let Some(i) = self.locate(key) {
             write_slot(self.bytes, i, &[0; SLOT_LEN]);

@@ -1,4 +1,4 @@
-use Rattle.std.proofs.Common.{ap}
+use Rattle.std.proofs.Common.{refl, ap}
 use Rattle.slots.specs.Cells.{celled}
 use Rattle.image.proofs.Answered.{new_cells, new_sound, new_past}
 use Rattle.image.proofs.image.Image.new.Goals as goal
@@ -11,4 +11,5 @@ returns c = record {
   meaning = ap celled (new_cells c.args.bytes.now c.clear.new.bytes c.clear.ensures);
   memory = c.clear.ensures;
   rest = new_past c.args.bytes.now c.clear.new.bytes c.clear.ensures;
+  same_reference = refl;
 }

@@ -16,9 +16,9 @@ returns-in-Some g c =
     let h = c.in-Some.ensures in
     let w = c.write_slot in
     let r = remove_there t.bytes.now (t.exact, t.unlike) c.in-Some.i w.new.bytes h.0 (g.K.SlotKey.keyed c.args.key.now) w.ensures.slots h.1 in
-    record { change = r.0; rest = w.ensures.rest }
+    record { change = record { change = r.0; rest = w.ensures.rest }; same_reference = refl }
 
 pub returns-in_default : goal.returns-in_default
 returns-in_default g c =
     let t = c.args.self.now in
-    record { change = remove_nothing t.bytes.now (t.exact, t.unlike) (g.K.SlotKey.keyed c.args.key.now) c.in_default.ensures; rest = refl }
+    record { change = record { change = remove_nothing t.bytes.now (t.exact, t.unlike) (g.K.SlotKey.keyed c.args.key.now) c.in_default.ensures; rest = refl }; same_reference = refl }

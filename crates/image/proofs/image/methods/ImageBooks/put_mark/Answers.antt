@@ -17,6 +17,6 @@ returns c =
     record {
       change =
           mark_put (mark_value row) (cells c.args.self.now.bytes.now) c.put.result (cells c.put.new.self.bytes.now)
-          (c.put.ensures.change (held_mark row) (reads (held_mark row) c.encode_mark.result e.bytes e.fits e.back));
-      rest = c.put.ensures.rest;
+          (c.put.ensures.change.change (held_mark row) (reads (held_mark row) c.encode_mark.result e.bytes e.fits e.back));
+      rest = λ i. (c.put.ensures.change.rest i, c.put.ensures.same_reference i);
     }

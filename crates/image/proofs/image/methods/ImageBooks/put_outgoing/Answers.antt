@@ -17,6 +17,6 @@ returns c =
     record {
       change =
           outgoing_put (entry_value row) (cells c.args.self.now.bytes.now) c.put.result (cells c.put.new.self.bytes.now)
-          (c.put.ensures.change (held_outgoing row) (reads (held_outgoing row) c.encode_outgoing.result e.bytes e.fits e.back));
-      rest = c.put.ensures.rest;
+          (c.put.ensures.change.change (held_outgoing row) (reads (held_outgoing row) c.encode_outgoing.result e.bytes e.fits e.back));
+      rest = λ i. (c.put.ensures.change.rest i, c.put.ensures.same_reference i);
     }

@@ -17,6 +17,6 @@ returns c =
     record {
       change =
           record_put (record_key row) (record_value row) (cells c.args.self.now.bytes.now) c.put.result (cells c.put.new.self.bytes.now)
-          (c.put.ensures.change (held_record row) (reads (held_record row) c.encode_record.result e.bytes e.fits e.back));
-      rest = c.put.ensures.rest;
+          (c.put.ensures.change.change (held_record row) (reads (held_record row) c.encode_record.result e.bytes e.fits e.back));
+      rest = λ i. (c.put.ensures.change.rest i, c.put.ensures.same_reference i);
     }
