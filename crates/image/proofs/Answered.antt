@@ -4,7 +4,7 @@ use lib.ListN.{length-replicate}
 use Rattle.std.proofs.lemmas.List.{drop_at}
 use Rattle.std.specs.Option.{option_map}
 use Rattle.format.specs.Values.{IdentifierValue, NameValue}
-use Rattle.books.specs.Meaning.{record_key, record_value, record_row, outgoing_key, outgoing_value, entry_value}
+use Rattle.books.specs.Meaning.{record_key, record_row, outgoing_key, entry_value}
 use Rattle.books.specs.declared.rows.Record.{Record}
 use Rattle.books.specs.declared.rows.Outgoing.{Outgoing}
 use Rattle.slots.specs.Layout.{slot_len}
@@ -14,8 +14,8 @@ use Rattle.slots.specs.Reading.{row_in, record_part, outgoing_part}
 use Rattle.slots.specs.RoundTrip.{RowFits, RowsReadBack}
 use Rattle.slots.specs.Cells.{look, apart}
 use Rattle.slots.proofs.Cells.{OfKey, absent_look, found}
-use Rattle.image.specs.Memory.{max_slots, usable, slots, cells, past, cleared, Sound, Encodes, Located}
-use Rattle.image.proofs.Slotted.{slots_fit, length_cells, cell_at, cleared_slots}
+use Rattle.image.specs.Memory.{max_slots, usable, slots, cells, past, cleared, Encodes, Located}
+use Rattle.image.proofs.Slotted.{Sound, slots_fit, length_cells, cell_at, cleared_slots}
 use Rattle.image.proofs.Changed.{zero_row}
 
 -- ---- a row looked for
@@ -36,9 +36,9 @@ module _ (bs : List ℕ) (sound : Sound bs) (k : RowKey) where
 
 -- a record that was read
 pub record_found : (d : IdentifierValue) (o : Option RowValue) → OfKey (by_identifier d) o → (r : Option Record) → option_map record_row r ≡ record_part o
-    → (option_map record_value r ≡ option_map (λ x. x.1) (record_part o)) × IfSome r (λ x. record_key x ≡ d)
-record_found d o k None e = (ap (option_map (λ x. x.1)) e, tt)
-record_found d o k (Some x) e = (ap (option_map (λ x. x.1)) e, at o k e)
+    → IfSome r (λ x. record_key x ≡ d)
+record_found d o k None e = tt
+record_found d o k (Some x) e = at o k e
   where
     at : (o : Option RowValue) → OfKey (by_identifier d) o → Some (record_row x) ≡ record_part o → record_key x ≡ d
     at None k e = let z : ◌≡◌ {A = ℕ} 0 1 = cc in absurd (omega arith)
@@ -50,9 +50,9 @@ record_found d o k (Some x) e = (ap (option_map (λ x. x.1)) e, at o k e)
     at (Some (holds_outgoing y)) k e = let z : ◌≡◌ {A = ℕ} 0 1 = cc in absurd (omega arith)
 
 pub outgoing_found : (n : NameValue) (o : Option RowValue) → OfKey (by_name n) o → (r : Option Outgoing) → option_map entry_value r ≡ outgoing_part o
-    → (option_map outgoing_value r ≡ option_map (λ e. e.row) (outgoing_part o)) × IfSome r (λ x. outgoing_key x ≡ n)
-outgoing_found n o k None e = (ap (option_map (λ e. e.row)) e, tt)
-outgoing_found n o k (Some x) e = (ap (option_map (λ e. e.row)) e, at o k e)
+    → IfSome r (λ x. outgoing_key x ≡ n)
+outgoing_found n o k None e = tt
+outgoing_found n o k (Some x) e = at o k e
   where
     at : (o : Option RowValue) → OfKey (by_name n) o → Some (entry_value x) ≡ outgoing_part o → outgoing_key x ≡ n
     at None k e = let z : ◌≡◌ {A = ℕ} 0 1 = cc in absurd (omega arith)

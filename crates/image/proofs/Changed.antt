@@ -1,6 +1,7 @@
 -- A memory of which one slot is written over: a row is put or removed.
-use Rattle.std.proofs.Common.{◌≡◌, ℕ, ◌<◌, Bool, true, false, List, length, get_or, set, replicate, Some, None, Option, sym, refl, ap, ◌∙◌, subst, arith}
+use Rattle.std.proofs.Common.{◌≡◌, ℕ, ◌<◌, Bool, ◌⊎◌, true, false, List, length, get_or, set, replicate, Some, None, Option, sym, refl, ap, ◌∙◌, subst, arith}
 use Rattle.books.specs.Lists.{any}
+use Rattle.books.proofs.Lists.{split}
 use Rattle.slots.specs.Layout.{slot_len}
 use Rattle.slots.specs.Rows.{RowValue, RowKey, row_key, has_key}
 use Rattle.slots.specs.Bytes.{slot_bytes}
@@ -8,8 +9,8 @@ use Rattle.slots.specs.Reading.{row_in}
 use Rattle.slots.specs.RoundTrip.{Exact}
 use Rattle.slots.specs.Cells.{free, apart, Put, Removed}
 use Rattle.slots.proofs.Cells.{put_old, put_new, put_full, remove_old, remove_none}
-use Rattle.image.specs.Memory.{usable, slots, cells, Sound, Encodes}
-use Rattle.image.proofs.Slotted.{length_cells, cells_are, exact_set}
+use Rattle.image.specs.Memory.{usable, slots, cells, Encodes}
+use Rattle.image.proofs.Slotted.{Sound, length_cells, cells_are, exact_set}
 
 pub zero_row : row_in (replicate slot_len 0) ≡ None
 unfolding row_in
@@ -41,19 +42,23 @@ module _ (bs : List ℕ) (sound : Sound bs) where
       abbrev v₀ : RowValue
       v₀ = enc.row.0
 
-      pub put_there : has_key k (get_or (cells bs) i None) ≡ true → Fills x true bs' × Sound bs'
+      put_there : has_key k (get_or (cells bs) i None) ≡ true → Fills x true bs' × Sound bs'
       put_there h =
           let at = λ (v : RowValue) (e : row_in x ≡ Some v). put_old (cells bs) sound.1 i low v (subst (λ q. has_key q (get_or (cells bs) i None) ≡ true) (sym (key_is k x enc v e)) h) in (
             (λ v e. subst (Put (cells bs) v true) (sym (now_cells x wrote (Some v) e enc.exact)) (at v e).0),
             now_sound x wrote (Some v₀) enc.row.1 enc.exact (at v₀ enc.row.1).1,
           )
 
-      pub put_free : any (has_key k) (cells bs) ≡ false → get_or (cells bs) i None ≡ None → Fills x true bs' × Sound bs'
+      put_free : any (has_key k) (cells bs) ≡ false → get_or (cells bs) i None ≡ None → Fills x true bs' × Sound bs'
       put_free a h =
           let at = λ (v : RowValue) (e : row_in x ≡ Some v). put_new (cells bs) sound.1 i low v (subst (λ q. any (has_key q) (cells bs) ≡ false) (sym (key_is k x enc v e)) a) h in (
             (λ v e. subst (Put (cells bs) v true) (sym (now_cells x wrote (Some v) e enc.exact)) (at v e).0),
             now_sound x wrote (Some v₀) enc.row.1 enc.exact (at v₀ enc.row.1).1,
           )
+
+      -- where the slot for the row was looked for
+      pub put_in : (has_key k (get_or (cells bs) i None) ≡ true) ⊎ ((any (has_key k) (cells bs) ≡ false) × (get_or (cells bs) i None ≡ None)) → Fills x true bs' × Sound bs'
+      put_in h = split h put_there (λ p. put_free p.0 p.1)
 
     pub remove_there : (k : RowKey) → slots bs' ≡ set (slots bs) i (replicate slot_len 0) → has_key k (get_or (cells bs) i None) ≡ true → Removed (cells bs) k (cells bs') × Sound bs'
     remove_there k wrote h =

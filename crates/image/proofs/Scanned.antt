@@ -1,30 +1,64 @@
 -- What a scan of the bytes of slots tells of the rows that they hold.
-use Rattle.std.proofs.Common.{◌≡◌, ℕ, zero, suc, ◌+◌, ◌<◌, ◌≤◌, Bool, true, false, not, ◌||◌, List, [], ◌∷◌, ◌++◌, length, get_or, take, drop, is_some, Some, None, Option, sym, refl, ap, ◌∙◌, arith}
-use Rattle.std.proofs.lemmas.List.{at_drop_more, at_drop_all, take_more}
-use Rattle.std.proofs.lemmas.Bool.{or_left, or_right, false≢true}
+use Rattle.std.proofs.Common.{◌≡◌, ℕ, zero, suc, ◌+◌, ◌<◌, Bool, true, false, cond, not, ◌||◌, List, [], ◌∷◌, map, filter, length, get_or, take, is_some, Some, None, Option, sym, refl, ap, ◌∙◌, subst, arith}
+use Rattle.std.specs.List.{list_any, position, position_or_len}
+use Rattle.std.specs.Option.{option_map}
+use Rattle.std.proofs.lemmas.List.{take_all}
+use Rattle.std.proofs.lemmas.List.Sums.{prefix_len_stops}
+use Rattle.std.proofs.lemmas.Bool.{or_left, or_right, false≢true, lt-ltb, le-ltb, cases_lt}
 use Rattle.books.specs.Lists.{any}
-use Rattle.slots.specs.Rows.{RowValue}
-use Rattle.slots.specs.Reading.{row_in}
+use Rattle.books.specs.Sides.{on}
+use Rattle.books.specs.declared.side.Side.{Side}
+use Rattle.books.proofs.Lists.{split}
+use Rattle.slots.specs.Bytes.{slot_bytes}
+use Rattle.slots.specs.Rows.{RowValue, home, row_key}
+use Rattle.slots.specs.Reading.{row_in, home_in}
 use Rattle.slots.specs.RoundTrip.{Exact}
-use Rattle.slots.specs.Cells.{Cells, free}
-use Rattle.slots.specs.Prefixes.{PrefixValue, begins}
-use Rattle.slots.proofs.Cells.{or_parts, none_free}
-use Rattle.image.specs.Memory.{cells, Scan, SlotsExact, Located, FreeSlot}
-use Rattle.image.proofs.Slotted.{length_cells, exact_at, cell_at, any_held}
+use Rattle.slots.specs.Cells.{Cells, free, held_and}
+use Rattle.slots.specs.Prefixes.{PrefixValue, begins, free_prefix}
+use Rattle.slots.proofs.Begins.{free_begins, home_is}
+use Rattle.slots.proofs.Cells.{none_free}
+use Rattle.image.specs.Memory.{slots, cells, Scan, SlotsExact, Located, FreeSlot}
+use Rattle.image.specs.Waiting.{on_side}
+use Rattle.image.proofs.Slotted.{length_slots, length_cells, exact_at, cell_at, any_held}
 
 pub scanned : (p : PrefixValue) (test : Option RowValue → Bool) → ((s : List ℕ) → Exact s → begins p s ≡ test (row_in s)) → (bs : List ℕ) → SlotsExact bs → (r : Option ℕ) → Scan p bs r → Located test bs r
 scanned p test f bs h None e = sym (any_held (begins p) test f bs h) ∙ e
 scanned p test f bs h (Some i) e = (e.within, ap test (cell_at bs i e.within) ∙ sym (f _ (exact_at bs i h e.within)) ∙ e.here)
 
--- one slot more of which a test does not hold
-any_push : {X : Type 0} (test : X → Bool) (xs : List X) (x : X) → any test xs ≡ false → test x ≡ false → any test (xs ++ x ∷ []) ≡ false
-any_push test [] x e h = ap (λ t. t || false) h
-any_push test (y ∷ ys) x e h =
-    let p = or_parts (test y) (any test ys) e in
-    λ i. p.0 i || any_push test ys x p.1 h i
+-- ---- the first that passes a test
+module _ {X : Type 0} (test : X → Bool) where
+  pub any_is : (xs : List X) → list_any test xs ≡ any test xs
+  any_is [] = refl
+  any_is (x ∷ xs) = ap (λ t. test x || t) (any_is xs)
 
-pub any_take : (test : List ℕ → Bool) (ss : List (List ℕ)) (i : ℕ) → i < length ss → any test (take i ss) ≡ false → test (get_or ss i []) ≡ false → any test (take (i + 1) ss) ≡ false
-any_take test ss i l e h = ap (any test) (take_more ss i [] l) ∙ any_push test (take i ss) (get_or ss i []) e h
+  none_before : (xs : List X) → any test (take (position_or_len test xs) xs) ≡ false
+  none_before [] = refl
+  none_before (x ∷ xs) = at (test x) refl (none_before xs)
+    where
+      at : (b : Bool) → test x ≡ b → any test (take (position_or_len test xs) xs) ≡ false → any test (take (cond (not b) (1 + position_or_len test xs) 0) (x ∷ xs)) ≡ false
+      at true e h = refl
+      at false e h =
+          let next : suc (position_or_len test xs) ≡ 1 + position_or_len test xs = omega arith in
+          subst (λ n. any test (take n (x ∷ xs)) ≡ false) next (rw e h)
+
+  there : (xs : List X) (d : X) → position_or_len test xs < length xs → test (get_or xs (position_or_len test xs) d) ≡ true
+  there xs d l = true_of _ (prefix_len_stops (λ x. not (test x)) xs d l)
+    where
+      true_of : (t : Bool) → not t ≡ false → t ≡ true
+      true_of true e = refl
+      true_of false e = sym e
+
+pub scan_is : (p : PrefixValue) (bs : List ℕ) (r : Option ℕ) → r ≡ position (begins p) (slots bs) → Scan p bs r
+scan_is p bs r e =
+    let test = begins p in
+    let ss = slots bs in
+    let n = position_or_len test ss in
+    let there_are = length_slots bs in
+    split (cases_lt n (length ss))
+    (λ l. subst (Scan p bs) (sym (e ∙ ap (λ t. cond t (Some n) None) (lt-ltb n (length ss) l)))
+    (record { within = omega arith; here = there test ss [] l; before = none_before test ss }))
+    (λ l. subst (Scan p bs) (sym (e ∙ ap (λ t. cond t (Some n) None) (le-ltb n (length ss) l)))
+    (subst (λ z. any test z ≡ false) (take_all n ss l) (none_before test ss)))
 
 any_at : (test : Option RowValue → Bool) (os : Cells) (i : ℕ) → i < length os → test (get_or os i None) ≡ true → any test os ≡ true
 any_at test [] i l e = absurd (omega arith)
@@ -44,24 +78,23 @@ pub free_scanned : (bs : List ℕ) (r : Option ℕ) → Located (λ o. not (is_s
 free_scanned bs None e = none_free (cells bs) e
 free_scanned bs (Some i) e = (e.0, none_there _ e.1)
 
--- ---- the count of free cells
-module _ (os : Cells) (i n : ℕ) (low : i < length os) (inv : n + free (drop i os) ≡ free os) where
-  here : free (drop i os) ≡ free (get_or os i None ∷ drop (i + 1) os)
-  here = at_drop_more free os i None low
+-- the slots that begin as free ones do are as many as the free cells
+pub count_is : (ss : List (List ℕ)) → map (λ s. slot_bytes (row_in s)) ss ≡ ss → length (filter (begins free_prefix) ss) ≡ free (map row_in ss)
+count_is [] e = refl
+count_is (s ∷ ss) e =
+    let head : slot_bytes (row_in s) ≡ s = cc in
+    let tail : map (λ s. slot_bytes (row_in s)) ss ≡ ss = cc in
+    ap (λ t. length (cond t (s ∷ filter (begins free_prefix) ss) (filter (begins free_prefix) ss))) (free_begins s head)
+    ∙ at (row_in s) (count_is ss tail)
+  where
+    at : (o : Option RowValue) → length (filter (begins free_prefix) ss) ≡ free (map row_in ss) → length (cond (not (is_some o)) (s ∷ filter (begins free_prefix) ss) (filter (begins free_prefix) ss)) ≡ free (o ∷ map row_in ss)
+    at None h = omega (arith, h)
+    at (Some v) h = h
 
-  pub free_more : true ≡ not (is_some (get_or os i None)) → n + 1 + free (drop (i + 1) os) ≡ free os
-  free_more e =
-      let h : free (drop i os) ≡ free (drop (i + 1) os) + 1 = here ∙ ap (λ o. free (o ∷ drop (i + 1) os)) (none_there _ (sym e)) in
-      omega arith
-
-  pub free_same : false ≡ not (is_some (get_or os i None)) → n + free (drop (i + 1) os) ≡ free os
-  free_same e =
-      let h : free (drop i os) ≡ free (drop (i + 1) os) = here ∙ skip (get_or os i None) e in
-      omega arith
-    where
-      skip : (o : Option RowValue) → false ≡ not (is_some o) → free (o ∷ drop (i + 1) os) ≡ free (drop (i + 1) os)
-      skip None e = absurd (false≢true e)
-      skip (Some v) e = refl
-
-pub free_all : (os : Cells) (i n : ℕ) → length os ≤ i → n + free (drop i os) ≡ free os → n ≡ free os
-free_all os i n l inv = let h = at_drop_all free os i l in omega arith
+-- ---- chains on a side
+pub on_side_is : (s : Side) (b : List ℕ) → Exact b → on_side s (home_in b) ≡ held_and (λ v. on s (home (row_key v))) (row_in b)
+on_side_is s b e = ap (on_side s) (home_is b e) ∙ at (row_in b)
+  where
+    at : (o : Option RowValue) → on_side s (option_map (λ v. home (row_key v)) o) ≡ held_and (λ v. on s (home (row_key v))) o
+    at None = refl
+    at (Some v) = refl

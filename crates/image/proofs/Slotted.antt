@@ -1,7 +1,8 @@
 -- The slots of a memory, one of which is read or written.
-use Rattle.std.proofs.Common.{◌≡◌, ℕ, zero, suc, ◌+◌, ◌-◌, ◌*◌, ◌/◌, ◌<◌, ◌≤◌, min, Bool, ◌||◌, List, [], ◌∷◌, ◌++◌, map, length, get_or, take, drop, set, replicate, None, Option, sym, refl, ap, ◌∙◌, append_assoc, arith, length-append, length-drop, length-take}
+use Rattle.std.proofs.Common.{◌≡◌, ℕ, zero, suc, ◌+◌, ◌-◌, ◌*◌, ◌/◌, ◌<◌, ◌≤◌, min, Bool, true, ◌||◌, List, [], ◌∷◌, ◌++◌, map, length, get_or, take, drop, set, replicate, None, Option, sym, refl, ap, ◌∙◌, append_assoc, arith, length-append, length-drop, length-take}
 use lib.ListN.{length-map, length-replicate}
 use Rattle.std.proofs.lemmas.List.{take_at, drop_at, take-take, take-append-le, drop-append-le, drop-take, drop-drop, get_or-map, map-set, replicate-append-replicate}
+use Rattle.std.specs.Simd.{first_chunks}
 use Rattle.format.specs.Writing.{written}
 use Rattle.books.specs.Lists.{any}
 use Rattle.slots.specs.Layout.{slot_len}
@@ -9,23 +10,34 @@ use Rattle.slots.specs.Rows.{RowValue}
 use Rattle.slots.specs.Bytes.{slot_bytes}
 use Rattle.slots.specs.Reading.{row_in}
 use Rattle.slots.specs.RoundTrip.{Exact}
-use Rattle.image.specs.Memory.{max_slots, usable, slots_in, slots, cells, past, cleared, SlotsExact}
+use Rattle.slots.specs.Cells.{apart}
+use Rattle.image.specs.Memory.{max_slots, usable, slots, cells, past, cleared, SlotsExact}
 
-pub length_slots_in : (n : ℕ) (bs : List ℕ) → length (slots_in n bs) ≡ n
-length_slots_in zero bs = refl
-length_slots_in (suc n) bs = ap suc (length_slots_in n (drop slot_len bs))
+-- what an image keeps of its memory
+abbrev pub Sound : List ℕ → Type 0
+Sound bs = SlotsExact bs × (apart (cells bs) ≡ true)
+
+pub length_first : (n : ℕ) (bs : List ℕ) → length (first_chunks slot_len n bs) ≡ n
+length_first zero bs = refl
+length_first (suc n) bs = ap suc (length_first n (drop slot_len bs))
 
 pub length_slots : (bs : List ℕ) → length (slots bs) ≡ usable bs
-length_slots bs = length_slots_in (usable bs) bs
+length_slots bs = length_first (usable bs) bs
 
 pub length_cells : (bs : List ℕ) → length (cells bs) ≡ usable bs
 length_cells bs = length-map (slots bs) row_in ∙ length_slots bs
+
+-- the first of the slots
+pub first_slots : (j k : ℕ) (bs : List ℕ) → j ≤ k → take j (first_chunks slot_len k bs) ≡ first_chunks slot_len j bs
+first_slots zero k bs l = refl
+first_slots (suc j) zero bs l = absurd (omega arith)
+first_slots (suc j) (suc k) bs l = ap (λ z. take slot_len bs ∷ z) (first_slots j k (drop slot_len bs) (omega arith))
 
 -- a slot further on
 further : (i : ℕ) → slot_len + i * slot_len ≡ suc i * slot_len
 further i = omega arith
 
-pub slot_is : (n : ℕ) (bs : List ℕ) (i : ℕ) (d : List ℕ) → i < n → get_or (slots_in n bs) i d ≡ take slot_len (drop (i * slot_len) bs)
+pub slot_is : (n : ℕ) (bs : List ℕ) (i : ℕ) (d : List ℕ) → i < n → get_or (first_chunks slot_len n bs) i d ≡ take slot_len (drop (i * slot_len) bs)
 slot_is zero bs i d l = absurd (omega arith)
 slot_is (suc n) bs zero d l = refl
 slot_is (suc n) bs (suc i) d l =
@@ -49,18 +61,18 @@ module _ (x : List ℕ) (size : length x ≡ slot_len) where
       drop-append-le slot_len (take (slot_len + a) bs) _ (simp length-take (omega arith))
       ∙ (λ i. drop-take slot_len a bs i ++ (x ++ (ap (λ k. drop k bs) n ∙ sym (drop-drop (a + length x) slot_len bs)) i))
 
-  pub slots_written : (n : ℕ) (bs : List ℕ) (i : ℕ) → i < n → n * slot_len ≤ length bs → slots_in n (written bs (i * slot_len) x) ≡ set (slots_in n bs) i x
+  pub slots_written : (n : ℕ) (bs : List ℕ) (i : ℕ) → i < n → n * slot_len ≤ length bs → first_chunks slot_len n (written bs (i * slot_len) x) ≡ set (first_chunks slot_len n bs) i x
   slots_written zero bs i l m = absurd (omega arith)
   slots_written (suc n) bs zero l m =
       let e : 0 + length x ≡ slot_len = omega arith in
-      (λ i. take_at x (drop (0 + length x) bs) slot_len size i ∷ slots_in n (drop_at x (drop (0 + length x) bs) slot_len size i))
-      ∙ ap (λ k. x ∷ slots_in n (drop k bs)) e
+      (λ i. take_at x (drop (0 + length x) bs) slot_len size i ∷ first_chunks slot_len n (drop_at x (drop (0 + length x) bs) slot_len size i))
+      ∙ ap (λ k. x ∷ first_chunks slot_len n (drop k bs)) e
   slots_written (suc n) bs (suc i) l m =
       let low : i < n = omega arith in
       let room : slot_len + i * slot_len + slot_len ≤ length bs = omega arith in
       let left : n * slot_len ≤ length (drop slot_len bs) = simp length-drop (omega arith) in
-      ap (λ k. slots_in (suc n) (written bs k x)) (sym (further i))
-      ∙ (λ j. take_further bs (i * slot_len) room j ∷ slots_in n (drop_further bs (i * slot_len) room j))
+      ap (λ k. first_chunks slot_len (suc n) (written bs k x)) (sym (further i))
+      ∙ (λ j. take_further bs (i * slot_len) room j ∷ first_chunks slot_len n (drop_further bs (i * slot_len) room j))
       ∙ ap (λ z. take slot_len bs ∷ z) (slots_written n (drop slot_len bs) i low left)
 
 pub past_written : (bs : List ℕ) (a : ℕ) (x : List ℕ) (n : ℕ) → a + length x ≤ n → a + length x ≤ length bs → drop n (written bs a x) ≡ drop n bs
@@ -85,7 +97,7 @@ wrote_slot bs i x bs' l size same e =
     let fit = slots_fit bs in
     let n : usable bs' ≡ usable bs = ap (λ k. min (k / slot_len) max_slots) same in
     record {
-      slots_are = (λ j. slots_in (n j) (e j)) ∙ slots_written x size (usable bs) bs i l fit;
+      slots_are = (λ j. first_chunks slot_len (n j) (e j)) ∙ slots_written x size (usable bs) bs i l fit;
       past_is =
           (λ j. drop (n j * slot_len) (e j))
           ∙ past_written bs (i * slot_len) x (usable bs * slot_len) (omega arith) (omega arith);
@@ -120,15 +132,15 @@ pub any_held : (test : List ℕ → Bool) (on_cell : Option RowValue → Bool) �
 any_held test on_cell f bs h = any_cells test on_cell f (slots bs) h
 
 -- ---- a cleared memory
-zero_slots : (n : ℕ) (z : List ℕ) → slots_in n (replicate (n * slot_len) 0 ++ z) ≡ replicate n (replicate slot_len 0)
+zero_slots : (n : ℕ) (z : List ℕ) → first_chunks slot_len n (replicate (n * slot_len) 0 ++ z) ≡ replicate n (replicate slot_len 0)
 zero_slots zero z = refl
 zero_slots (suc n) z =
     let first : replicate (suc n * slot_len) 0 ++ z ≡ replicate slot_len 0 ++ (replicate (n * slot_len) 0 ++ z)
     = ap (λ k. replicate k 0 ++ z) (sym (further n)) ∙ ap (λ y. y ++ z) (sym (replicate-append-replicate slot_len (n * slot_len) 0)) ∙ append_assoc (replicate slot_len 0) (replicate (n * slot_len) 0) z in
-    (λ i. take slot_len (first i) ∷ slots_in n (drop slot_len (first i)))
-    ∙ (λ i. take_at (replicate slot_len 0) (replicate (n * slot_len) 0 ++ z) slot_len (length-replicate {A = ℕ} slot_len 0) i ∷ slots_in n (drop_at (replicate slot_len 0) (replicate (n * slot_len) 0 ++ z) slot_len (length-replicate {A = ℕ} slot_len 0) i))
+    (λ i. take slot_len (first i) ∷ first_chunks slot_len n (drop slot_len (first i)))
+    ∙ (λ i. take_at (replicate slot_len 0) (replicate (n * slot_len) 0 ++ z) slot_len (length-replicate {A = ℕ} slot_len 0) i ∷ first_chunks slot_len n (drop_at (replicate slot_len 0) (replicate (n * slot_len) 0 ++ z) slot_len (length-replicate {A = ℕ} slot_len 0) i))
     ∙ ap (λ y. replicate slot_len 0 ∷ y) (zero_slots n z)
 
 pub cleared_slots : (bs bs' : List ℕ) → length bs' ≡ length bs → bs' ≡ cleared bs → slots bs' ≡ replicate (usable bs) (replicate slot_len 0)
 cleared_slots bs bs' same e =
-    (λ j. slots_in (min (same j / slot_len) max_slots) (e j)) ∙ zero_slots (usable bs) (past bs)
+    (λ j. first_chunks slot_len (min (same j / slot_len) max_slots) (e j)) ∙ zero_slots (usable bs) (past bs)

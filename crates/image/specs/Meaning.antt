@@ -1,5 +1,6 @@
 -- The meaning of books in a lent memory.
 use Rattle.std.specs.Prelude.{◌≡◌, ℕ, List, replicate, None}
+use Rattle.std.specs.Borrow.{GName}
 use Rattle.books.specs.Books.{BooksValue, Laws}
 use Rattle.slots.specs.Cells.{celled}
 use Rattle.slots.proofs.Celled.{celled_laws}
@@ -8,7 +9,7 @@ use Rattle.image.specs.declared.image.Image.{Image}
 
 -- the whole memory
 abbrev pub bytes_of : Image → List ℕ
-bytes_of m = m.memory.bytes.now
+bytes_of m = m.bytes.now
 
 -- the books of the rows that the slots hold
 abbrev pub image_value : Image → BooksValue
@@ -19,6 +20,10 @@ image_laws m = celled_laws (cells (bytes_of m))
 
 abbrev pub bytes_past : Image → List ℕ
 bytes_past m = past (bytes_of m)
+
+-- the reference to the memory
+abbrev pub lender : Image → GName
+lender m = m.bytes.ghost_name
 
 -- no row, in so many slots
 abbrev pub no_rows : ℕ → BooksValue

@@ -1,13 +1,14 @@
 -- A lent memory in slots.
-use Rattle.std.specs.Prelude.{◌≡◌, ℕ, zero, suc, ◌*◌, ◌/◌, ◌<◌, min, Bool, true, false, List, [], ◌∷◌, ◌++◌, map, length, take, drop, replicate, Some, None, Option, MatchOption, slice_index_or}
+use Rattle.std.specs.Prelude.{◌≡◌, ℕ, ◌*◌, ◌/◌, ◌<◌, ◌⊎◌, min, Bool, true, false, List, [], ◌++◌, map, length, take, drop, replicate, Some, None, Option, MatchOption, slice_index_or}
+use Rattle.std.specs.Simd.{first_chunks}
 use Rattle.books.specs.Lists.{any}
 use Rattle.slots.specs.Layout.{slot_len}
-use Rattle.slots.specs.Rows.{RowValue, RowKey, row_key}
+use Rattle.slots.specs.Rows.{RowValue, RowKey, row_key, has_key}
 use Rattle.slots.specs.Bytes.{slot_bytes}
 use Rattle.slots.specs.Reading.{row_in}
 use Rattle.slots.specs.RoundTrip.{Exact}
 use Rattle.slots.specs.Prefixes.{PrefixValue, begins}
-use Rattle.slots.specs.Cells.{Cells, free, apart, Put, Removed}
+use Rattle.slots.specs.Cells.{Cells, free, Put, Removed}
 
 -- how many slots are used at most
 abbrev pub max_slots : ℕ
@@ -17,13 +18,9 @@ max_slots = 600
 abbrev pub usable : List ℕ → ℕ
 usable bs = min (length bs / slot_len) max_slots
 
--- the first n slots
-abbrev pub slots_in : ℕ → List ℕ → List (List ℕ)
-slots_in zero bs = []
-slots_in (suc n) bs = take slot_len bs ∷ slots_in n (drop slot_len bs)
-
+-- the slots that are used
 abbrev pub slots : List ℕ → List (List ℕ)
-slots bs = slots_in (usable bs) bs
+slots bs = first_chunks slot_len (usable bs) bs
 
 -- what each of them holds
 abbrev pub cells : List ℕ → Cells
@@ -51,10 +48,6 @@ Scan p bs r = MatchOption r (any (begins p) (slots bs) ≡ false) (First p bs)
 abbrev pub SlotsExact : List ℕ → Type 0
 SlotsExact bs = map (λ s. slot_bytes (row_in s)) (slots bs) ≡ slots bs
 
--- and no two hold rows with one key
-abbrev pub Sound : List ℕ → Type 0
-Sound bs = SlotsExact bs × (apart (cells bs) ≡ true)
-
 -- exactly the bytes of the row with a key
 pub record Encodes (k : RowKey) (s : List ℕ) : Type 0 where
   pub exact : Exact s
@@ -68,14 +61,24 @@ Located test bs r = MatchOption r (any test (cells bs) ≡ false) (λ i. (i < us
 abbrev pub FreeSlot : List ℕ → Option ℕ → Type 0
 FreeSlot bs r = MatchOption r (free (cells bs) ≡ 0) (λ i. (i < usable bs) × (slice_index_or (cells bs) i None ≡ None))
 
+-- where the row with a key goes: the slot of the one that has it, or else a free one, or that there is none
+abbrev pub SlotFor : RowKey → List ℕ → Option ℕ → Type 0
+SlotFor k bs None = (any (has_key k) (cells bs) ≡ false) × (free (cells bs) ≡ 0)
+SlotFor k bs (Some i) =
+    (i < usable bs)
+    × ((has_key k (slice_index_or (cells bs) i None) ≡ true) ⊎ ((any (has_key k) (cells bs) ≡ false) × (slice_index_or (cells bs) i None ≡ None)))
+
+-- the slot that holds a row, if there is that row
+abbrev pub HoldsRow : Option RowValue → Option (List ℕ) → Type 0
+HoldsRow o None = o ≡ None
+HoldsRow o (Some s) = row_in s ≡ o
+
 -- the row of a slot s put into a memory, or refused
 pub record PutInto (bs s : List ℕ) (r : Bool) (bs' : List ℕ) : Type 0 where
   pub change : (v : RowValue) → row_in s ≡ Some v → Put (cells bs) v r (cells bs')
-  pub sound : Sound bs'
   pub rest : past bs' ≡ past bs
 
 -- the row with a key removed from a memory
 pub record RemovedFrom (bs : List ℕ) (k : RowKey) (bs' : List ℕ) : Type 0 where
   pub change : Removed (cells bs) k (cells bs')
-  pub sound : Sound bs'
   pub rest : past bs' ≡ past bs

@@ -1,5 +1,6 @@
 pub mod Filled
 pub mod Fields
+pub mod Kinded
 pub mod Backs
 pub mod Readings
 pub mod Begins

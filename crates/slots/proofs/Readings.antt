@@ -1,10 +1,13 @@
 -- What a slot reads as, by its length and first byte.
-use Rattle.std.proofs.Common.{◌≡◌, ℕ, Bool, true, false, cond, eqb, ◌≢◌, List, length, Some, None, Option, refl, ap, ◌∙◌}
+use Rattle.std.proofs.Common.{◌≡◌, ℕ, Bool, true, false, cond, eqb, ◌≢◌, List, length, Some, None, Option, refl, ap, ◌∙◌, arith}
 use Rattle.std.proofs.lemmas.Bool.{cond-false, ne_eqb}
 use Rattle.std.specs.Option.{option_map}
 use Rattle.format.specs.Values.{IdentifierValue}
 use Rattle.books.specs.Values.{RecordValue, EntryValue}
 use Rattle.slots.specs.Layout.{slot_len, record_byte, plus_byte, minus_byte, opening_byte, message_byte, message_at}
+use Rattle.slots.specs.Kinds.{kind_byte}
+use Rattle.slots.specs.declared.kind.Kind.{Kind}
+use Rattle.slots.specs.declared.kind.Kind.TheVariants.{Free, Record, Plus, Minus, Opening, Message}
 use Rattle.slots.specs.Rows.{RowValue, holds_record, holds_outgoing}
 use Rattle.slots.specs.Reading.{both, chain_in, name_at, record_fields, record_in, opening_in, sent_in, entry_in, outgoing_in, row_of_kind, kind_of, row_in, record_part, outgoing_part}
 use Rattle.slots.proofs.Fields.{of_kind}
@@ -70,3 +73,11 @@ an_opening s l e = ap outgoing_part (of_kind s opening_byte l e) ∙ outgoing_on
 
 pub a_message : (s : List ℕ) → length s ≡ slot_len → kind_of s ≡ message_byte → outgoing_part (row_in s) ≡ entry_in (sent_in s) s
 a_message s l e = ap outgoing_part (of_kind s message_byte l e) ∙ outgoing_only (entry_in (sent_in s) s)
+
+pub other_kind : (s : List ℕ) (k : Kind) → length s ≡ slot_len → kind_byte k ≡ kind_of s → k ≢ Opening → k ≢ Message → outgoing_part (row_in s) ≡ None
+other_kind s Free l e n m = no_outgoing s l (λ h. omega (arith, e, h)) (λ h. omega (arith, e, h))
+other_kind s Record l e n m = no_outgoing s l (λ h. omega (arith, e, h)) (λ h. omega (arith, e, h))
+other_kind s Plus l e n m = no_outgoing s l (λ h. omega (arith, e, h)) (λ h. omega (arith, e, h))
+other_kind s Minus l e n m = no_outgoing s l (λ h. omega (arith, e, h)) (λ h. omega (arith, e, h))
+other_kind s Opening l e n m = absurd (n refl)
+other_kind s Message l e n m = absurd (m refl)

@@ -1,4 +1,6 @@
 pub mod Layout
+pub mod Kinds
+pub mod Written
 pub mod Rows
 pub mod Bytes
 pub mod Reading

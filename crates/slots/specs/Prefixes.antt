@@ -1,13 +1,15 @@
 -- What the slots that are looked for begin with.
-use Rattle.std.specs.Prelude.{ℕ, Bool, ◌&&◌, List, [], ◌++◌, length, take, ◌==◌, nat_le}
+use Rattle.std.specs.Prelude.{ℕ, Bool, ◌&&◌, List, [], ◌++◌, length, ◌==◌, nat_le}
 use Rattle.std.specs.Str.{bytes_eq}
 use Rattle.format.specs.Bytes.{identifier_bytes, name_bytes, message_bytes}
 use Rattle.format.specs.Values.{IdentifierValue}
 use Rattle.books.specs.Values.{MarkValue}
 use Rattle.slots.specs.Layout.{slot_len, free_byte, record_byte, minus_byte, opening_byte, message_byte, chain_at}
+use Rattle.slots.specs.Kinds.{kind_byte}
 use Rattle.slots.specs.Rows.{RowKey, by_identifier, by_mark, by_name}
 use Rattle.slots.specs.Bytes.{sign_byte}
 use Rattle.slots.specs.Reading.{kind_of, field}
+use Rattle.slots.specs.Written.{contents}
 use Rattle.slots.specs.declared.prefix.Prefix.{Prefix}
 
 -- a first byte from `first` to `last`, and then these bytes
@@ -20,7 +22,7 @@ abbrev pub prefix : ℕ → ℕ → List ℕ → PrefixValue
 prefix first last bytes = record { first = first; last = last; bytes = bytes }
 
 abbrev pub prefix_value : Prefix → PrefixValue
-prefix_value p = prefix p.first p.last (take p.len p.bytes)
+prefix_value p = prefix (kind_byte p.first) (kind_byte p.last) (contents p.key)
 
 abbrev pub begins : PrefixValue → List ℕ → Bool
 begins p s =

@@ -1,77 +1,74 @@
 //! The rows that slots hold.
-ghost use Rattle.std.specs.Prelude.{◌≡◌, length};
+ghost use Rattle.std.specs.Prelude.{◌≡◌, ◌+◌, ◌≤◌};
 ghost use Rattle.std.specs.Option.{option_map};
-ghost use Rattle.format.specs.Layout.{digest_len, height_len, key_len, value_len};
 ghost use Rattle.format.specs.Meaning.{digest_value, identifier_value, name_value};
 ghost use Rattle.format.specs.Numbers.{from_bytes, signed_number};
 ghost use Rattle.books.specs.Meaning.{entry_value, load_value, record_row};
 ghost use Rattle.slots.specs.Layout.{chain_at, slot_len};
-ghost use Rattle.slots.specs.Reading.{entry_in, home_in, name_at, opening_in, outgoing_part, record_fields, record_part, row_in, sent_in, vote_in as spec_vote_in};
+ghost use Rattle.slots.specs.Reading.{entry_in, field as spec_field, home_in, name_at, opening_in, outgoing_part, record_fields, record_part, row_in, sent_in, vote_in as spec_vote_in};
 
+use crate::kind::Kind;
 use crate::layout::{
-    A_AT, B_AT, CHAIN_AT, FREE, LAST_AT, LOAD_AT, MESSAGE, NEXT_AT, OPENING, OWNER_AT, RECORD,
-    SENT_VALUE_AT, SLOT_LEN, TARGET_AT, VOTE_AT, VOTED, VOTED_AT,
+    A_AT, B_AT, CHAIN_AT, LAST_AT, LOAD_AT, NEXT_AT, OWNER_AT, SENT_VALUE_AT, SLOT_LEN, TARGET_AT,
+    VOTE_AT, VOTED, VOTED_AT,
 };
 use books::{Load, Outgoing, Record};
-use format::layout::{DIGEST_LEN, HEIGHT_LEN, IDENTIFIER_LEN, KEY_LEN, VALUE_LEN};
+use format::layout::{HEIGHT_LEN, IDENTIFIER_LEN, KEY_LEN, VALUE_LEN};
 use format::{Digest, Height, Identifier, Key, Name};
 use reading::read_identifier;
 
-fn key_in(bytes: &[u8]) -> Key
-    requires { length bytes.now ≡ key_len }
-    ensures { result.0 ≡ from_bytes bytes.now }
+// The bytes of a slot from a place on.
+fn field<const N: usize>(slot: &[u8; SLOT_LEN], at: usize) -> [u8; N]
+    requires { at + N ≤ slot_len }
+    ensures { result ≡ spec_field at N slot.now }
 {
-    Key(u32::from_be_bytes([bytes[0], bytes[1], bytes[2], bytes[3]]))
+    let mut bytes = [0; N];
+    bytes.copy_from_slice(&slot[at..at + N]);
+    bytes
 }
 
-fn height_in(bytes: &[u8]) -> Height
-    requires { length bytes.now ≡ height_len }
-    ensures { result.0 ≡ from_bytes bytes.now }
+fn key_of(bytes: [u8; KEY_LEN]) -> Key
+    ensures { result.0 ≡ from_bytes bytes }
 {
-    Height(u16::from_be_bytes([bytes[0], bytes[1]]))
+    Key(u32::from_be_bytes(bytes))
 }
 
-fn value_in(bytes: &[u8]) -> i64
-    requires { length bytes.now ≡ value_len }
-    ensures { result ≡ signed_number bytes.now }
+fn height_of(bytes: [u8; HEIGHT_LEN]) -> Height
+    ensures { result.0 ≡ from_bytes bytes }
 {
-    u64::from_be_bytes([
-        bytes[0], bytes[1], bytes[2], bytes[3], bytes[4], bytes[5], bytes[6], bytes[7],
-    ])
-    .cast_signed()
+    Height(u16::from_be_bytes(bytes))
 }
 
-fn digest_in(bytes: &[u8]) -> Digest
-    requires { length bytes.now ≡ digest_len }
-    ensures { digest_value result ≡ bytes.now }
+fn value_of(bytes: [u8; VALUE_LEN]) -> i64
+    ensures { result ≡ signed_number bytes }
 {
-    let mut digest = [0; DIGEST_LEN];
-    digest.copy_from_slice(bytes);
-    Digest { bytes: digest }
+    i64::from_be_bytes(bytes)
 }
 
-fn vote_in(slot: &[u8]) -> Option<Digest>
-    requires { length slot.now ≡ slot_len }
+fn vote_in(slot: &[u8; SLOT_LEN]) -> Option<Digest>
     ensures { option_map digest_value result ≡ spec_vote_in slot.now }
 {
     if slot[VOTE_AT] == VOTED {
-        Some(digest_in(&slot[VOTED_AT..SLOT_LEN]))
+        Some(Digest {
+            bytes: field(slot, VOTED_AT),
+        })
     } else {
         None
     }
 }
 
-fn record_of(identifier: Identifier, slot: &[u8]) -> Record
-    requires { length slot.now ≡ slot_len }
+fn record_of(identifier: Identifier, slot: &[u8; SLOT_LEN]) -> Record
     ensures { record_row result ≡ (identifier_value identifier, record_fields slot.now) }
 {
     Record {
         identifier,
-        owner: key_in(&slot[OWNER_AT..NEXT_AT]),
-        next: height_in(&slot[NEXT_AT..LAST_AT]),
-        last: digest_in(&slot[LAST_AT..A_AT]),
-        a: value_in(&slot[A_AT..B_AT]),
-        b: value_in(&slot[B_AT..VOTE_AT]),
+        owner: key_of(field(slot, OWNER_AT)),
+        next: height_of(field(slot, NEXT_AT)),
+        last: Digest {
+            bytes: field(slot, LAST_AT),
+        },
+        a: value_of(field(slot, A_AT)),
+        b: value_of(field(slot, B_AT)),
         vote: vote_in(slot),
     }
 }
@@ -80,79 +77,62 @@ fn record_of(identifier: Identifier, slot: &[u8]) -> Record
 pub fn decode_record(slot: &[u8]) -> Option<Record>
     ensures { option_map record_row result ≡ record_part (row_in slot.now) }
 {
-    if slot.len() != SLOT_LEN {
+    let slot = slot.as_array()?;
+    if slot[0] != Kind::Record as u8 {
         return None;
     }
-    if slot[0] != RECORD {
-        return None;
-    }
-    let Some(identifier) = read_identifier(&slot[CHAIN_AT..OWNER_AT]) else {
-        return None;
-    };
+    let identifier = read_identifier(&slot[CHAIN_AT..OWNER_AT])?;
     Some(record_of(identifier, slot))
 }
 
 // The name at the front of a row.
-fn name_in(slot: &[u8]) -> Option<Name>
-    requires { length slot.now ≡ slot_len }
+fn name_in(slot: &[u8; SLOT_LEN]) -> Option<Name>
     ensures { option_map name_value result ≡ name_at chain_at slot.now }
 {
-    let Some(sender) = read_identifier(&slot[CHAIN_AT..CHAIN_AT + IDENTIFIER_LEN]) else {
-        return None;
-    };
     Some(Name {
-        sender,
-        height: height_in(&slot[CHAIN_AT + IDENTIFIER_LEN..CHAIN_AT + IDENTIFIER_LEN + HEIGHT_LEN]),
+        sender: read_identifier(&slot[CHAIN_AT..CHAIN_AT + IDENTIFIER_LEN])?,
+        height: height_of(field(slot, CHAIN_AT + IDENTIFIER_LEN)),
         index: slot[CHAIN_AT + IDENTIFIER_LEN + HEIGHT_LEN],
     })
 }
 
-fn opening_load(slot: &[u8]) -> Load
-    requires { length slot.now ≡ slot_len }
+fn opening_load(slot: &[u8; SLOT_LEN]) -> Load
     ensures { load_value result ≡ opening_in slot.now }
 {
     Load::Opening {
-        key: key_in(&slot[LOAD_AT..LOAD_AT + KEY_LEN]),
+        key: key_of(field(slot, LOAD_AT)),
     }
 }
 
-fn sent_load(slot: &[u8]) -> Load
-    requires { length slot.now ≡ slot_len }
+fn sent_load(slot: &[u8; SLOT_LEN]) -> Load
     ensures { load_value result ≡ sent_in slot.now }
 {
     Load::Sent {
         code: slot[LOAD_AT],
-        value: value_in(&slot[SENT_VALUE_AT..SENT_VALUE_AT + VALUE_LEN]),
+        value: value_of(field(slot, SENT_VALUE_AT)),
     }
 }
 
-fn outgoing_of(load: Load, slot: &[u8]) -> Option<Outgoing>
-    requires { length slot.now ≡ slot_len }
+fn outgoing_of(load: Load, slot: &[u8; SLOT_LEN]) -> Option<Outgoing>
     ensures { option_map entry_value result ≡ entry_in (load_value load) slot.now }
 {
-    let Some(name) = name_in(slot) else {
-        return None;
-    };
-    let Some(target) = read_identifier(&slot[TARGET_AT..LOAD_AT]) else {
-        return None;
-    };
-    Some(Outgoing { name, target, load })
+    Some(Outgoing {
+        name: name_in(slot)?,
+        target: read_identifier(&slot[TARGET_AT..LOAD_AT])?,
+        load,
+    })
 }
 
 /// The outgoing row that a slot holds, or none.
 pub fn decode_outgoing(slot: &[u8]) -> Option<Outgoing>
     ensures { option_map entry_value result ≡ outgoing_part (row_in slot.now) }
 {
-    if slot.len() != SLOT_LEN {
-        return None;
+    let slot = slot.as_array()?;
+    match Kind::try_from(slot[0]).ok()? {
+        Kind::Opening => outgoing_of(opening_load(slot), slot),
+        Kind::Message => outgoing_of(sent_load(slot), slot),
+        _ => None,
     }
-    if slot[0] == OPENING {
-        return outgoing_of(opening_load(slot), slot);
-    }
-    if slot[0] == MESSAGE {
-        return outgoing_of(sent_load(slot), slot);
-    }
-    None
 }
 
 /// The chain that the row of a slot begins with: its own, or that of a mark's target or of an
@@ -160,10 +140,8 @@ pub fn decode_outgoing(slot: &[u8]) -> Option<Outgoing>
 pub fn home_of(slot: &[u8]) -> Option<Identifier>
     ensures { option_map identifier_value result ≡ home_in slot.now }
 {
-    if slot.len() != SLOT_LEN {
-        return None;
-    }
-    if slot[0] == FREE {
+    let slot: &[u8; SLOT_LEN] = slot.as_array()?;
+    if slot[0] == Kind::Free as u8 {
         return None;
     }
     read_identifier(&slot[CHAIN_AT..CHAIN_AT + IDENTIFIER_LEN])

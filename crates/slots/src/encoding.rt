@@ -1,76 +1,171 @@
 //! The bytes of a row.
-ghost use Rattle.std.specs.Prelude.{◌≡◌};
-ghost use Rattle.books.specs.Meaning.{load_value, sign_value};
-ghost use Rattle.slots.specs.Bytes.{load_byte as spec_load_byte, row_bytes, sign_byte as spec_sign_byte};
+ghost use Rattle.std.specs.Prelude.{◌≡◌, ◌+◌, ◌^◌, ◌<◌, ◌≤◌, length, FitsSigned};
+ghost use Rattle.std.specs.Int.{w64};
+ghost use Rattle.std.specs.Option.{option_map};
+ghost use Rattle.format.specs.Bytes.{message_bytes, name_bytes};
+ghost use Rattle.format.specs.Layout.{code_len, digest_len, height_len, key_len, name_len, receive_len, value_len};
+ghost use Rattle.format.specs.Meaning.{digest_value, message_value, name_value};
+ghost use Rattle.format.specs.Numbers.{signed_bytes, to_bytes};
+ghost use Rattle.books.specs.Meaning.{load_value, mark_value, sign_value};
+ghost use Rattle.slots.specs.Bytes.{load_byte, load_bytes, row_bytes, sign_byte, vote_bytes};
+ghost use Rattle.slots.specs.Kinds.{kind_byte};
+ghost use Rattle.slots.specs.Layout.{max_prefix_len, slot_len, vote_byte_len};
 ghost use Rattle.slots.specs.Meaning.{held_mark, held_outgoing, held_record};
-ghost use Rattle.slots.specs.RoundTrip.{RowFits, RowsReadBack};
+ghost use Rattle.slots.specs.Prefixes.{mark_key_bytes};
+ghost use Rattle.slots.specs.RoundTrip.{LoadFits, MarkFits, MessageFits, NameFits, RowFits, RowsReadBack, VoteFits};
+ghost use Rattle.slots.specs.Written.{Adds, contents};
 
-use crate::layout::{MESSAGE, MINUS, OPENING, PLUS, RECORD, SLOT_LEN};
-use crate::writing::{
-    write_at, write_digest, write_height, write_identifier, write_key, write_load, write_message,
-    write_name, write_value, write_vote,
-};
+use crate::kind::Kind;
+use crate::layout::{SLOT_LEN, VOTE_BYTE_LEN, VOTED};
+use crate::writer::Writer;
 use books::{Load, Mark, Outgoing, Record, Sign};
+use format::layout::{DIGEST_LEN, HEIGHT_LEN, KEY_LEN, VALUE_LEN};
+use format::{Digest, Height, Key, Message, Name};
+
+pub(crate) fn kind_of_sign(sign: Sign) -> Kind
+    ensures { kind_byte result ≡ sign_byte (sign_value sign) }
+{
+    match sign {
+        Sign::Plus => Kind::Plus,
+        Sign::Minus => Kind::Minus,
+    }
+}
+
+fn kind_of_load(load: Load) -> Kind
+    ensures { kind_byte result ≡ load_byte (load_value load) }
+{
+    match load {
+        Load::Opening { .. } => Kind::Opening,
+        Load::Sent { .. } => Kind::Message,
+    }
+}
+
+fn key_bytes(key: Key) -> [u8; KEY_LEN]
+    ensures bytes { result ≡ to_bytes key_len key.0 }
+    ensures fits { key.0 < 256 ^ key_len }
+{
+    key.0.to_be_bytes()
+}
+
+fn height_bytes(height: Height) -> [u8; HEIGHT_LEN]
+    ensures bytes { result ≡ to_bytes height_len height.0 }
+    ensures fits { height.0 < 256 ^ height_len }
+{
+    height.0.to_be_bytes()
+}
+
+fn value_bytes(value: i64) -> [u8; VALUE_LEN]
+    ensures bytes { result ≡ signed_bytes value }
+    ensures fits { FitsSigned w64 value }
+{
+    value.to_be_bytes()
+}
+
+#[tactic(auto, unfolding(format::specs::Bytes::name_bytes))]
+pub(crate) fn add_name<const N: usize>(writer: &mut Writer<N>, name: &Name)
+    requires { length (contents writer.old) + name_len ≤ N }
+    ensures wrote { Adds writer.old (name_bytes (name_value name.now)) writer.new }
+    ensures fits { NameFits (name_value name.now) }
+{
+    writer.add(&name.sender.to_bytes());
+    writer.add(&height_bytes(name.height));
+    writer.add(&[name.index]);
+}
+
+#[tactic(auto, using(format::proofs::Lengths::length_name))]
+fn add_message<const N: usize>(writer: &mut Writer<N>, message: &Message)
+    requires { length (contents writer.old) + receive_len ≤ N }
+    ensures wrote { Adds writer.old (message_bytes (message_value message.now)) writer.new }
+    ensures fits { MessageFits (message_value message.now) }
+{
+    add_name(writer, &message.name);
+    writer.add(&[message.code]);
+    writer.add(&value_bytes(message.value));
+}
+
+// A mark's target and message.
+pub(crate) fn add_mark<const N: usize>(writer: &mut Writer<N>, mark: &Mark)
+    requires { length (contents writer.old) + max_prefix_len ≤ N }
+    ensures wrote { Adds writer.old (mark_key_bytes (mark_value mark.now)) writer.new }
+    ensures fits { MarkFits (mark_value mark.now) }
+{
+    writer.add(&mark.target.to_bytes());
+    add_message(writer, &mark.message);
+}
+
+// A byte 1 before the voted digest, or zeros for none.
+fn add_vote(slot: &mut Writer<SLOT_LEN>, vote: Option<Digest>)
+    requires { length (contents slot.old) + (vote_byte_len + digest_len) ≤ slot_len }
+    ensures wrote { Adds slot.old (vote_bytes (option_map digest_value vote)) slot.new }
+    ensures fits { VoteFits (option_map digest_value vote) }
+{
+    match vote {
+        Some(digest) => {
+            slot.add(&[VOTED]);
+            slot.add(&digest.bytes);
+        }
+        None => slot.add(&[0; VOTE_BYTE_LEN + DIGEST_LEN]),
+    }
+}
+
+// An opening's key, or a message's code and value.
+fn add_load(slot: &mut Writer<SLOT_LEN>, load: Load)
+    requires { length (contents slot.old) + (code_len + value_len) ≤ slot_len }
+    ensures wrote { Adds slot.old (load_bytes (load_value load)) slot.new }
+    ensures fits { LoadFits (load_value load) }
+{
+    match load {
+        Load::Opening { key } => slot.add(&key_bytes(key)),
+        Load::Sent { code, value } => {
+            slot.add(&[code]);
+            slot.add(&value_bytes(value));
+        }
+    }
+}
 
 /// The slot of a record.
+#[tactic(auto, using(crate::proofs::Backs::rows_read_back))]
 pub fn encode_record(row: &Record) -> [u8; SLOT_LEN]
     ensures bytes { result ≡ row_bytes (held_record row.now) }
     ensures fits { RowFits (held_record row.now) }
     ensures back { RowsReadBack }
 {
-    let mut slot = [0; SLOT_LEN];
-    let at = write_at(&mut slot, 0, &[RECORD]);
-    let at = write_identifier(&mut slot, at, &row.identifier);
-    let at = write_key(&mut slot, at, row.owner);
-    let at = write_height(&mut slot, at, row.next);
-    let at = write_digest(&mut slot, at, &row.last);
-    let at = write_value(&mut slot, at, &row.a);
-    let at = write_value(&mut slot, at, &row.b);
-    write_vote(&mut slot, at, &row.vote);
-    slot
-}
-
-pub(crate) fn sign_byte(sign: &Sign) -> u8
-    ensures { result ≡ spec_sign_byte (sign_value sign.now) }
-{
-    match sign {
-        Sign::Plus => PLUS,
-        Sign::Minus => MINUS,
-    }
-}
-
-fn load_byte(load: &Load) -> u8
-    ensures { result ≡ spec_load_byte (load_value load.now) }
-{
-    match load {
-        Load::Opening { key: _ } => OPENING,
-        Load::Sent { code: _, value: _ } => MESSAGE,
-    }
+    let mut slot = Writer::new();
+    slot.add(&[Kind::Record as u8]);
+    slot.add(&row.identifier.to_bytes());
+    slot.add(&key_bytes(row.owner));
+    slot.add(&height_bytes(row.next));
+    slot.add(&row.last.bytes);
+    slot.add(&value_bytes(row.a));
+    slot.add(&value_bytes(row.b));
+    add_vote(&mut slot, row.vote);
+    slot.into_bytes()
 }
 
 /// The slot of a mark.
+#[tactic(auto, using(crate::proofs::Backs::rows_read_back), unfolding(crate::specs::Bytes::mark_bytes))]
 pub fn encode_mark(row: &Mark) -> [u8; SLOT_LEN]
     ensures bytes { result ≡ row_bytes (held_mark row.now) }
     ensures fits { RowFits (held_mark row.now) }
     ensures back { RowsReadBack }
 {
-    let mut slot = [0; SLOT_LEN];
-    let at = write_at(&mut slot, 0, &[sign_byte(&row.sign)]);
-    let at = write_identifier(&mut slot, at, &row.target);
-    write_message(&mut slot, at, &row.message);
-    slot
+    let mut slot = Writer::new();
+    slot.add(&[kind_of_sign(row.sign).into()]);
+    add_mark(&mut slot, row);
+    slot.into_bytes()
 }
 
 /// The slot of an outgoing row.
+#[tactic(auto, using(crate::proofs::Backs::rows_read_back, format::proofs::Lengths::length_name), unfolding(crate::specs::Bytes::outgoing_bytes))]
 pub fn encode_outgoing(row: &Outgoing) -> [u8; SLOT_LEN]
     ensures bytes { result ≡ row_bytes (held_outgoing row.now) }
     ensures fits { RowFits (held_outgoing row.now) }
     ensures back { RowsReadBack }
 {
-    let mut slot = [0; SLOT_LEN];
-    let at = write_at(&mut slot, 0, &[load_byte(&row.load)]);
-    let at = write_name(&mut slot, at, &row.name);
-    let at = write_identifier(&mut slot, at, &row.target);
-    write_load(&mut slot, at, &row.load);
-    slot
+    let mut slot = Writer::new();
+    slot.add(&[kind_of_load(row.load).into()]);
+    add_name(&mut slot, &row.name);
+    slot.add(&row.target.to_bytes());
+    add_load(&mut slot, row.load);
+    slot.into_bytes()
 }

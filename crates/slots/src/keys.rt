@@ -6,12 +6,11 @@ ghost use Rattle.slots.specs.Prefixes.{key_prefix, prefix_value};
 ghost use Rattle.slots.specs.RoundTrip.{KeyFits};
 ghost use Rattle.slots.specs.Rows.{RowKey, by_identifier, by_mark, by_name};
 
-use crate::encoding::sign_byte;
-use crate::layout::{MAX_PREFIX_LEN, MESSAGE, OPENING, RECORD};
+use crate::encoding::{add_mark, add_name, kind_of_sign};
+use crate::kind::Kind;
 use crate::prefix::Prefix;
-use crate::writing::{write_identifier, write_message, write_name};
+use crate::writer::Writer;
 use books::Mark;
-use format::layout::NAME_LEN;
 use format::{Identifier, Name};
 
 /// What a row is looked for by: a record's identifier, a mark, an outgoing row's name.
@@ -28,7 +27,9 @@ impl SlotKey for Identifier {
     ghost keyed = { λ c. by_identifier (identifier_value c) };
 
     fn prefix(&self) -> Prefix {
-        Prefix::new(RECORD, RECORD, &self.to_bytes())
+        let mut key = Writer::new();
+        key.add(&self.to_bytes());
+        Prefix::new(Kind::Record, Kind::Record, key)
     }
 }
 
@@ -36,11 +37,10 @@ impl SlotKey for Mark {
     ghost keyed = { λ m. by_mark (mark_value m) };
 
     fn prefix(&self) -> Prefix {
-        let kind = sign_byte(&self.sign);
-        let mut bytes = [0; MAX_PREFIX_LEN];
-        let at = write_identifier(&mut bytes, 0, &self.target);
-        write_message(&mut bytes, at, &self.message);
-        Prefix::new(kind, kind, &bytes)
+        let kind = kind_of_sign(self.sign);
+        let mut key = Writer::new();
+        add_mark(&mut key, self);
+        Prefix::new(kind, kind, key)
     }
 }
 
@@ -48,8 +48,8 @@ impl SlotKey for Name {
     ghost keyed = { λ n. by_name (name_value n) };
 
     fn prefix(&self) -> Prefix {
-        let mut bytes = [0; NAME_LEN];
-        write_name(&mut bytes, 0, self);
-        Prefix::new(OPENING, MESSAGE, &bytes)
+        let mut key = Writer::new();
+        add_name(&mut key, self);
+        Prefix::new(Kind::Opening, Kind::Message, key)
     }
 }

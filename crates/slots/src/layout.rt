@@ -9,19 +9,6 @@ pub const KIND_LEN: usize = 1;
 /// The byte before a voted digest.
 pub const VOTE_BYTE_LEN: usize = 1;
 
-// First bytes.
-pub const FREE: u8 = 0;
-
-pub const RECORD: u8 = 1;
-
-pub const PLUS: u8 = 2;
-
-pub const MINUS: u8 = 3;
-
-pub const OPENING: u8 = 4;
-
-pub const MESSAGE: u8 = 5;
-
 /// The byte before a voted digest. Where there is none, it and the digest's bytes are zero.
 pub const VOTED: u8 = 1;
 

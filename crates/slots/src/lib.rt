@@ -4,11 +4,13 @@
 mod decoding;
 mod encoding;
 mod keys;
+mod kind;
 pub mod layout;
 mod prefix;
-mod writing;
+mod writer;
 
 pub use decoding::{decode_outgoing, decode_record, home_of};
 pub use encoding::{encode_mark, encode_outgoing, encode_record};
 pub use keys::SlotKey;
+pub use kind::{Kind, UnknownKind};
 pub use prefix::Prefix;

@@ -1,17 +1,14 @@
 //! What the slots that are looked for begin with.
-ghost use Rattle.std.specs.Prelude.{◌≤◌};
-ghost use Rattle.slots.specs.Layout.{max_prefix_len};
-
+use crate::kind::Kind;
 use crate::layout::MAX_PREFIX_LEN;
+use crate::writer::Writer;
 
 pub mod methods;
 
-/// A first byte from `first` to `last`, and then the first `len` of `bytes`.
+/// A first byte from that of `first` to that of `last`, and then the bytes of `key`.
 #[derive(Clone, Copy)]
 pub struct Prefix {
-    first: u8,
-    last: u8,
-    bytes: [u8; MAX_PREFIX_LEN],
-    len: usize,
-    ghost within: { len ≤ max_prefix_len },
+    first: Kind,
+    last: Kind,
+    key: Writer<MAX_PREFIX_LEN>,
 }

@@ -15,6 +15,8 @@ pub struct Split<P, Q> {
     pub second: Q,
 }
 
+// The two may be books of different types, so that a helper would take two closures for each
+// question, and read no plainer than these branches.
 impl<P: Books, Q: Books> Books for Split<P, Q> {
     ghost meaning = { λ s. joined (P.Books.meaning s.first) (Q.Books.meaning s.second) };
 

@@ -155,16 +155,6 @@ fn show_tables(rt: &HostRuntime) -> anyhow::Result<()> {
     show_store(rt, "Store in tables:", &mut books)
 }
 
-// Two workers' books, of any make.
-fn show_two<P: Books + Drop, Q: Books + Drop>(
-    rt: &HostRuntime,
-    first: P,
-    second: Q,
-) -> anyhow::Result<()> {
-    let mut books = Split { first, second };
-    show_store(rt, "Store of two workers, each with tables:", &mut books)
-}
-
 fn show_split(rt: &HostRuntime) -> anyhow::Result<()> {
     let mut records = [Record::blank(); 2];
     let mut marks = [Mark::blank(); 2];
@@ -174,7 +164,8 @@ fn show_split(rt: &HostRuntime) -> anyhow::Result<()> {
     let mut marks = [Mark::blank(); 2];
     let mut outgoing = [Outgoing::blank(); 2];
     let second = Tables::new(&mut records, &mut marks, &mut outgoing);
-    show_two(rt, first, second)
+    let mut books = Split { first, second };
+    show_store(rt, "Store of two workers, each with tables:", &mut books)
 }
 
 fn show_image(rt: &HostRuntime) -> anyhow::Result<()> {

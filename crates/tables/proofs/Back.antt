@@ -15,6 +15,6 @@ given_back t l e = record {
   whole = e;
   held_rows =
       ap (λ s. lists (take (length (rows_held t).records) s.records) (take (length (rows_held t).marks) s.marks) (take (length (rows_held t).outgoing) s.outgoing)) e
-      ∙ (λ i. lists (front t.records.count _ t.records_sound.0 i) (front t.marks.count _ t.marks_sound.0 i) (front t.outgoing.count _ t.outgoing_sound.0 i));
+      ∙ (λ i. lists (front t.records.count _ t.records.in_slice i) (front t.marks.count _ t.marks.in_slice i) (front t.outgoing.count _ t.outgoing.in_slice i));
   past_rows = ap (λ s. lists (drop max_rows s.records) (drop max_rows s.marks) (drop max_rows s.outgoing)) e;
 }

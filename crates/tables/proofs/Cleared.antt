@@ -1,19 +1,12 @@
 -- Blank rows written one after another.
-use Rattle.std.proofs.Common.{◌≡◌, ℕ, zero, suc, ◌+◌, ◌<◌, min, List, [], ◌∷◌, ◌++◌, map, length, get_or, take, drop, set, replicate, sym, refl, ap, ◌∙◌, append_assoc, arith, length-append, length-drop}
+use Rattle.std.proofs.Common.{◌≡◌, ℕ, zero, suc, min, List, [], ◌∷◌, ◌++◌, map, length, take, drop, replicate, sym, refl, ap, ◌∙◌, arith, length-append, length-drop}
 use lib.ListN.{length-map, length-replicate}
-use Rattle.std.proofs.lemmas.List.{drop_all, drop_at, drop-map, drop_more, map-append, replicate_more, set_at}
+use Rattle.std.proofs.lemmas.List.{drop_all, drop_at, drop-map, length-take-le, map-append}
 use Rattle.std.proofs.lemmas.Bool.{cases_lt}
 use Rattle.books.proofs.Lists.{split}
 use Rattle.tables.specs.Limits.{max_rows}
 use Rattle.tables.specs.Held.{memory, usable, held, room, past, cleared}
 use Rattle.tables.specs.declared.table.Table.{Table}
-
-pub cleared_more : {R : Type 0} (n : ℕ) (b : R) (d : List R) → n < length d → set (replicate n b ++ drop n d) n b ≡ replicate (n + 1) b ++ drop (n + 1) d
-cleared_more n b d l =
-    ap (λ z. set (replicate n b ++ z) n b) (drop_more d n b l)
-    ∙ set_at (replicate n b) (get_or d n b) (drop (n + 1) d) b n (length-replicate n b)
-    ∙ sym (append_assoc (replicate n b) (b ∷ []) (drop (n + 1) d))
-    ∙ ap (λ z. z ++ drop (n + 1) d) (replicate_more n b)
 
 -- what lies past the rows that are used
 drop_usable : {R : Type 0} (cap : ℕ) (d : List R) → drop (min (length d) cap) d ≡ drop cap d
@@ -22,9 +15,11 @@ drop_usable cap d =
     (λ l. let e : min (length d) cap ≡ cap = omega arith in ap (λ n. drop n d) e)
     (λ l. drop_all (min (length d) cap) d (omega arith) ∙ sym (drop_all cap d l))
 
-pub cleared_is : {R : Type 0} (b : R) (rs rs' : List R) (end : ℕ) → rs' ≡ replicate end b ++ drop end rs → end ≡ usable rs → rs' ≡ cleared b rs
-cleared_is b rs rs' end e h =
-    e ∙ ap (λ n. replicate n b ++ drop n rs) h ∙ ap (λ z. replicate (usable rs) b ++ z) (drop_usable max_rows rs)
+-- the first rows filled, and behind them what was there
+pub cleared_is : {R : Type 0} (b : R) (front rs : List R) (end : ℕ) → front ≡ replicate (length (take end rs)) b → end ≡ usable rs → front ++ drop end rs ≡ cleared b rs
+cleared_is b front rs end e h =
+    let l : length (take end rs) ≡ usable rs = length-take-le end rs (omega arith) ∙ h in
+    (λ i. (e ∙ ap (λ n. replicate n b) l) i ++ drop (h i) rs) ∙ ap (λ z. replicate (usable rs) b ++ z) (drop_usable max_rows rs)
 
 map_replicate : {X Y : Type 0} (f : X → Y) (n : ℕ) (x : X) → map f (replicate n x) ≡ replicate n (f x)
 map_replicate f zero x = refl
@@ -36,7 +31,7 @@ map_cleared f b c rs e =
     ∙ (λ i. (map_replicate f (usable rs) b ∙ (λ j. replicate (min (sym (length-map rs f) j) max_rows) (e j))) i ++ sym (drop-map f max_rows rs) i)
 
 -- ---- a table with no row in cleared memory
-module _ {R : Type 0} (t : Table R) (b : R) (rs : List R) (none : t.count ≡ 0) (is : memory t ≡ cleared b rs) where
+module _ {R L : Type 0} {keys : _} (t : Table R L keys) (b : R) (rs : List R) (none : t.count ≡ 0) (is : memory t ≡ cleared b rs) where
   length_is : length (memory t) ≡ length rs
   length_is = ap length is ∙ simp (length-append, length-replicate, length-drop) (omega arith)
 

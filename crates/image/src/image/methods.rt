@@ -1,32 +1,34 @@
 //! The questions and changes of books, each asked of the slots.
 ghost use Rattle.std.specs.Prelude.{◌≡◌, ℕ, List};
-ghost use Rattle.image.specs.Meaning.{GivenBack, bytes_of, bytes_past, image_laws, image_value, no_rows};
+ghost use Rattle.std.specs.Borrow.{GName};
+ghost use Rattle.image.specs.Meaning.{GivenBack, bytes_of, bytes_past, image_laws, image_value, lender, no_rows};
 ghost use Rattle.image.specs.Memory.{cleared, past, usable};
 
 use super::Image;
-use crate::memory::{Memory, any_minus, any_on_side, count_free, least, locate, slot_at};
+use crate::memory::clear;
 use books::{Books, Mark, NewRows, Outgoing, Record, Side};
 use format::{Identifier, Name};
 use slots::{decode_outgoing, decode_record, encode_mark, encode_outgoing, encode_record};
 
 impl<'a> Image<'a> {
-    /// Books with no row, in a memory whose slots up to the limit are then all zeros.
+    /// Books with no row, in a memory whose slots up to the limit are then all zeros. What the
+    /// books leave in it is what the lender has when the loan ends.
     pub fn new(bytes: &'a mut [u8]) -> Image<'a>
         ensures meaning { image_value result ≡ no_rows (usable bytes.old) }
         ensures memory { bytes_of result ≡ cleared bytes.old }
         ensures rest { bytes_past result ≡ past bytes.old }
+        ensures same_reference { lender result ≡ bytes.entry.ghost_name }
     {
-        Image {
-            memory: Memory::new(bytes),
-        }
+        clear(bytes);
+        Image { bytes }
     }
 
     /// Gives the memory back.
     pub fn into_bytes(self) -> &'a mut [u8]
-        ensures { GivenBack self.entry result.now }
+        ensures given { GivenBack self.entry result.now }
+        ensures same_reference { result.ghost_name ≡ lender self.entry }
     {
-        let Image { memory } = self;
-        memory.into_bytes()
+        self.bytes
     }
 }
 
@@ -35,76 +37,62 @@ impl<'a> Books for Image<'a> {
 
     ghost laws = { image_laws };
 
-    ghost Outside = { List ℕ };
+    ghost Outside = { List ℕ × GName };
 
-    ghost outside = { bytes_past };
+    ghost outside = { λ m. (bytes_past m, lender m) };
 
     fn record(&self, chain: &Identifier) -> Option<Record> {
-        match locate(self.memory.bytes(), chain) {
-            Some(i) => decode_record(slot_at(self.memory.bytes(), i)),
-            None => None,
-        }
+        decode_record(self.slot_of(chain)?)
     }
 
     fn has_mark(&self, mark: &Mark) -> bool {
-        locate(self.memory.bytes(), mark).is_some()
+        self.locate(mark).is_some()
     }
 
     fn has_minus(&self, chain: &Identifier) -> bool {
-        any_minus(self.memory.bytes(), chain)
+        self.any_minus(chain)
     }
 
     fn outgoing(&self, name: &Name) -> Option<Outgoing> {
-        match locate(self.memory.bytes(), name) {
-            Some(i) => decode_outgoing(slot_at(self.memory.bytes(), i)),
-            None => None,
-        }
+        decode_outgoing(self.slot_of(name)?)
     }
 
     fn fits(&self, chain: &Identifier, new: NewRows) -> bool {
-        let free = count_free(self.memory.bytes());
-        if new.records > free {
-            return false;
-        }
-        let free = free - new.records;
-        if new.marks > free {
-            return false;
-        }
-        new.outgoing <= free - new.marks
+        let free = self.count_free();
+        new.records <= free
+            && new.marks <= free - new.records
+            && new.outgoing <= free - new.records - new.marks
     }
 
     fn is_blank(&self, side: Side) -> bool {
-        !any_on_side(self.memory.bytes(), side)
+        !self.any_on_side(side)
     }
 
     fn least_outgoing(&self, side: Side) -> Option<Outgoing> {
-        least(self.memory.bytes(), side)
+        self.least(side)
     }
 
     fn put_record(&mut self, row: Record) -> bool {
-        let slot = encode_record(&row);
-        self.memory.put(&row.identifier, &slot)
+        self.put(&row.identifier, &encode_record(&row))
     }
 
     fn put_mark(&mut self, row: Mark) -> bool {
-        let slot = encode_mark(&row);
-        self.memory.put(&row, &slot)
+        self.put(&row, &encode_mark(&row))
     }
 
     fn put_outgoing(&mut self, row: Outgoing) -> bool {
-        let slot = encode_outgoing(&row);
-        self.memory.put(&row.name, &slot)
+        self.put(&row.name, &encode_outgoing(&row))
     }
 
     fn remove_record(&mut self, chain: &Identifier) {
-        self.memory.remove(chain);
+        self.remove(chain);
     }
 
     fn remove_mark(&mut self, mark: &Mark) {
-        self.memory.remove(mark);
+        self.remove(mark);
     }
 
     fn remove_outgoing(&mut self, name: &Name) {
-        self.memory.remove(name);
+        self.remove(name);
     }
 }

@@ -1,35 +1,29 @@
 //! Making a prefix, and holding it against a slot.
-ghost use Rattle.std.specs.Prelude.{◌≡◌, ◌≤◌, length};
+ghost use Rattle.std.specs.Prelude.{◌≡◌};
 ghost use Rattle.format.specs.Identifiers.{Identifies};
 ghost use Rattle.format.specs.Meaning.{identifier_value};
-ghost use Rattle.slots.specs.Layout.{max_prefix_len};
+ghost use Rattle.slots.specs.Kinds.{kind_byte};
 ghost use Rattle.slots.specs.Prefixes.{begins as spec_begins, free_prefix, minus_prefix, prefix, prefix_value};
+ghost use Rattle.slots.specs.Written.{contents};
 
 use super::Prefix;
-use crate::layout::{CHAIN_AT, FREE, MAX_PREFIX_LEN, MINUS, SLOT_LEN};
-use crate::writing::write_at;
+use crate::kind::Kind;
+use crate::layout::{CHAIN_AT, MAX_PREFIX_LEN, SLOT_LEN};
+use crate::writer::Writer;
 use format::Identifier;
 
 impl Prefix {
-    pub(crate) fn new(first: u8, last: u8, key: &[u8]) -> Prefix
-        requires { length key.now ≤ max_prefix_len }
-        ensures { prefix_value result ≡ prefix first last key.now }
+    pub(crate) fn new(first: Kind, last: Kind, key: Writer<MAX_PREFIX_LEN>) -> Prefix
+        ensures { prefix_value result ≡ prefix (kind_byte first) (kind_byte last) (contents key) }
     {
-        let mut bytes = [0; MAX_PREFIX_LEN];
-        let len = write_at(&mut bytes, 0, key);
-        Prefix {
-            first,
-            last,
-            bytes,
-            len,
-        }
+        Prefix { first, last, key }
     }
 
     /// That of the free slots.
     pub fn free() -> Prefix
         ensures { prefix_value result ≡ free_prefix }
     {
-        Prefix::new(FREE, FREE, &[])
+        Prefix::new(Kind::Free, Kind::Free, Writer::new())
     }
 
     /// That of the slots that hold a minus mark of a chain.
@@ -37,16 +31,19 @@ impl Prefix {
         ensures value { prefix_value result ≡ minus_prefix (identifier_value chain.now) }
         ensures fits { Identifies (identifier_value chain.now) }
     {
-        Prefix::new(MINUS, MINUS, &chain.to_bytes())
+        let mut key = Writer::new();
+        key.add(&chain.to_bytes());
+        Prefix::new(Kind::Minus, Kind::Minus, key)
     }
 
     /// Whether a slot begins so.
     pub fn begins(&self, slot: &[u8]) -> bool
         ensures { result ≡ spec_begins (prefix_value self.now) slot.now }
     {
-        if slot.len() != SLOT_LEN || slot[0] < self.first || slot[0] > self.last {
-            return false;
-        }
-        slot[CHAIN_AT..CHAIN_AT + self.len] == self.bytes[0..self.len]
+        let key = self.key.as_slice();
+        slot.len() == SLOT_LEN
+            && slot[0] >= u8::from(self.first)
+            && slot[0] <= u8::from(self.last)
+            && &slot[CHAIN_AT..CHAIN_AT + key.len()] == key
     }
 }

@@ -1,30 +1,23 @@
-use Rattle.format.proofs.Writes.{wrote_then}
+use Rattle.std.proofs.Common.{ap, ◌∙◌, w64, SFits, rules}
+use Rattle.std.proofs.lemmas.Int.{to_z-of_z}
+use Rattle.format.specs.Numbers.{signed_bytes}
 use Rattle.slots.specs.Bytes.{record_bytes}
-use Rattle.slots.proofs.Filled.{wrote_filled}
-use Rattle.slots.proofs.Backs.{rows_read_back}
+use Rattle.slots.proofs.Filled.{adds_as, adds_then, adds_filled}
 use Rattle.slots.proofs.encoding.encode_record.Goals as goal
 
-pub returns : goal.returns
+pub returns-clause-bytes : goal.returns-clause-bytes
 unfolding record_bytes
-returns c = record {
-  bytes =
-      wrote_filled
-      (wrote_then c.write_at-at.ensures
-      (wrote_then c.write_identifier-at.ensures.wrote
-      (wrote_then c.write_key-at.ensures.wrote
-      (wrote_then c.write_height-at.ensures.wrote
-      (wrote_then c.write_digest-at.ensures.wrote
-      (wrote_then c.write_value-at.ensures.wrote
-      (wrote_then c.write_value-at-2.ensures.wrote
-      c.write_vote.ensures.wrote)))))));
-  fits = record {
-    identifier = c.write_identifier-at.ensures.fits;
-    owner = c.write_key-at.ensures.fits;
-    next = c.write_height-at.ensures.fits;
-    last = c.write_digest-at.ensures.fits;
-    a = c.write_value-at.ensures.fits;
-    b = c.write_value-at-2.ensures.fits;
-    vote = c.write_vote.ensures.fits;
-  };
-  back = rows_read_back;
-}
+returns-clause-bytes c =
+    let row = c.args.row.now in
+    let fits_a : SFits w64 row.a = search rules in
+    let fits_b : SFits w64 row.b = search rules in
+    adds_filled c.new-slot.ensures
+    (adds_then c.add.ensures
+    (adds_then (adds_as c.add-2.ensures c.to_bytes.ensures.bytes)
+    (adds_then (adds_as c.add-3.ensures c.key_bytes.ensures.bytes)
+    (adds_then (adds_as c.add-4.ensures c.height_bytes.ensures.bytes)
+    (adds_then c.add-5.ensures
+    (adds_then (adds_as c.add-6.ensures (c.value_bytes.ensures.bytes ∙ ap signed_bytes (to_z-of_z w64 row.a fits_a)))
+    (adds_then (adds_as c.add-7.ensures (c.value_bytes-2.ensures.bytes ∙ ap signed_bytes (to_z-of_z w64 row.b fits_b)))
+    c.add_vote.ensures.wrote)))))))
+    c.into_bytes.ensures

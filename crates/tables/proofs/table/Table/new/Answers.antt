@@ -1,9 +1,5 @@
-use Rattle.std.proofs.Common.{refl}
 use Rattle.tables.proofs.Cleared.{cleared_is}
 use Rattle.tables.proofs.table.Table.new.Goals as goal
 
-pub returns : goal.returns
-returns g c = record {
-  none = refl;
-  memory = cleared_is c.args.blank c.args.rows.now c.clear.new.rows c.min-end.result c.clear.ensures c.min-end.ensures;
-}
+pub returns-clause-memory : goal.returns-clause-memory
+returns-clause-memory g c = cleared_is c.args.blank c.fill.new.self c.args.rows.now c.min-end.result (c.fill.ensures.after (λ x. c.requires.copies x)) c.min-end.ensures

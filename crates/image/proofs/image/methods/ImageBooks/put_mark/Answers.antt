@@ -7,16 +7,16 @@ use Rattle.image.proofs.image.methods.ImageBooks.put_mark.Goals as goal
 
 pub put-requires : goal.put-requires
 put-requires c =
-    let e = c.encode_mark-slot.ensures in
-    (c.args.self.now.sound, encodes (held_mark c.args.row) c.encode_mark-slot.result e.bytes e.fits e.back)
+    let e = c.encode_mark.ensures in
+    encodes (held_mark c.args.row) c.encode_mark.result e.bytes e.fits e.back
 
 pub returns : goal.returns
 returns c =
     let row = c.args.row in
-    let e = c.encode_mark-slot.ensures in
+    let e = c.encode_mark.ensures in
     record {
       change =
-          mark_put (mark_value row) (cells c.args.self.now.memory.bytes.now) c.put.result (cells c.put.new.self.bytes.now)
-          (c.put.ensures.change (held_mark row) (reads (held_mark row) c.encode_mark-slot.result e.bytes e.fits e.back));
-      rest = c.put.ensures.rest;
+          mark_put (mark_value row) (cells c.args.self.now.bytes.now) c.put.result (cells c.put.new.self.bytes.now)
+          (c.put.ensures.change.change (held_mark row) (reads (held_mark row) c.encode_mark.result e.bytes e.fits e.back));
+      rest = λ i. (c.put.ensures.change.rest i, c.put.ensures.same_reference i);
     }

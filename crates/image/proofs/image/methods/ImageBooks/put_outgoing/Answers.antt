@@ -7,16 +7,16 @@ use Rattle.image.proofs.image.methods.ImageBooks.put_outgoing.Goals as goal
 
 pub put-requires : goal.put-requires
 put-requires c =
-    let e = c.encode_outgoing-slot.ensures in
-    (c.args.self.now.sound, encodes (held_outgoing c.args.row) c.encode_outgoing-slot.result e.bytes e.fits e.back)
+    let e = c.encode_outgoing.ensures in
+    encodes (held_outgoing c.args.row) c.encode_outgoing.result e.bytes e.fits e.back
 
 pub returns : goal.returns
 returns c =
     let row = c.args.row in
-    let e = c.encode_outgoing-slot.ensures in
+    let e = c.encode_outgoing.ensures in
     record {
       change =
-          outgoing_put (entry_value row) (cells c.args.self.now.memory.bytes.now) c.put.result (cells c.put.new.self.bytes.now)
-          (c.put.ensures.change (held_outgoing row) (reads (held_outgoing row) c.encode_outgoing-slot.result e.bytes e.fits e.back));
-      rest = c.put.ensures.rest;
+          outgoing_put (entry_value row) (cells c.args.self.now.bytes.now) c.put.result (cells c.put.new.self.bytes.now)
+          (c.put.ensures.change.change (held_outgoing row) (reads (held_outgoing row) c.encode_outgoing.result e.bytes e.fits e.back));
+      rest = λ i. (c.put.ensures.change.rest i, c.put.ensures.same_reference i);
     }

@@ -7,16 +7,16 @@ use Rattle.image.proofs.image.methods.ImageBooks.put_record.Goals as goal
 
 pub put-requires : goal.put-requires
 put-requires c =
-    let e = c.encode_record-slot.ensures in
-    (c.args.self.now.sound, encodes (held_record c.args.row) c.encode_record-slot.result e.bytes e.fits e.back)
+    let e = c.encode_record.ensures in
+    encodes (held_record c.args.row) c.encode_record.result e.bytes e.fits e.back
 
 pub returns : goal.returns
 returns c =
     let row = c.args.row in
-    let e = c.encode_record-slot.ensures in
+    let e = c.encode_record.ensures in
     record {
       change =
-          record_put (record_key row) (record_value row) (cells c.args.self.now.memory.bytes.now) c.put.result (cells c.put.new.self.bytes.now)
-          (c.put.ensures.change (held_record row) (reads (held_record row) c.encode_record-slot.result e.bytes e.fits e.back));
-      rest = c.put.ensures.rest;
+          record_put (record_key row) (record_value row) (cells c.args.self.now.bytes.now) c.put.result (cells c.put.new.self.bytes.now)
+          (c.put.ensures.change.change (held_record row) (reads (held_record row) c.encode_record.result e.bytes e.fits e.back));
+      rest = λ i. (c.put.ensures.change.rest i, c.put.ensures.same_reference i);
     }

@@ -5,6 +5,6 @@ use Rattle.image.proofs.image.methods.ImageBooks.remove_mark.Goals as goal
 
 pub returns : goal.returns
 returns c = record {
-  change = mark_removed (mark_value c.args.mark.now) (cells c.args.self.now.memory.bytes.now) (cells c.remove.new.self.bytes.now) c.remove.ensures.change;
-  rest = c.remove.ensures.rest;
+  change = mark_removed (mark_value c.args.mark.now) (cells c.args.self.now.bytes.now) (cells c.remove.new.self.bytes.now) c.remove.ensures.change.change;
+  rest = λ i. (c.remove.ensures.change.rest i, c.remove.ensures.same_reference i);
 }

@@ -5,6 +5,6 @@ use Rattle.image.proofs.image.methods.ImageBooks.remove_outgoing.Goals as goal
 
 pub returns : goal.returns
 returns c = record {
-  change = outgoing_removed (name_value c.args.name.now) (cells c.args.self.now.memory.bytes.now) (cells c.remove.new.self.bytes.now) c.remove.ensures.change;
-  rest = c.remove.ensures.rest;
+  change = outgoing_removed (name_value c.args.name.now) (cells c.args.self.now.bytes.now) (cells c.remove.new.self.bytes.now) c.remove.ensures.change.change;
+  rest = λ i. (c.remove.ensures.change.rest i, c.remove.ensures.same_reference i);
 }

@@ -12,4 +12,4 @@ pub returns : goal.returns
 returns c =
     let t = c.args.self.now in
     subst (λ r. Least (tables_value t).rows.outgoing_at (on c.args.side) (option_map entry_value r)) (sym c.least.ensures)
-    (earliest_least (held t.outgoing) t.outgoing_sound.2 (on c.args.side))
+    (earliest_least (held t.outgoing) t.outgoing.apart (on c.args.side))
