@@ -13,7 +13,7 @@ ghost use Rattle.agreement.specs.Agreement.{MembersAgree, VotesAreOne};
 ghost use Rattle.agreement.specs.Instance.{AcceptingRun};
 ghost use Rattle.agreement.specs.Worked.{WorkedValues};
 
-use applications::{Application, ApplicationFault, RingRegister, Step};
+use applications::{Application, ApplicationFault, RingOperation, RingRegister, Step};
 use committee::{Member, faulty};
 
 /// The weight that dishonest members may have together, or none where the committee is outside its rules. While they have no
@@ -33,5 +33,5 @@ pub fn worked_values() -> Result<Step, ApplicationFault>
     ensures farthest { step_value result ≡ Gives (pos 1) (pos 1) None }
     ensures values { WorkedValues }
 {
-    RingRegister::operate(0, 0, 2, -500)
+    RingRegister::operate(0, 0, RingOperation::RecordOnly.into(), -500)
 }

@@ -131,7 +131,7 @@ fn check_lot(n: i64) -> Result<(), StockFault>
     Ok(())
 }
 
-fn say(message: StockMessage, n: i64) -> Option<Sent>
+fn sent(message: StockMessage, n: i64) -> Option<Sent>
     ensures { option_map sent_value result ≡ said (stock_message_code message) n }
 {
     Some(Sent {
@@ -169,7 +169,7 @@ fn take(a: i64, b: i64, n: i64) -> Result<Step, StockFault>
     if a < n {
         return Err(StockFault::TooFew);
     }
-    keep(a, b, a - n, b, say(StockMessage::Delivery, n))
+    keep(a, b, a - n, b, sent(StockMessage::Delivery, n))
 }
 
 impl StockOperation {
@@ -180,7 +180,7 @@ impl StockOperation {
         match self {
             StockOperation::Cast => keep(a, b, a.saturating_add(n), b, None),
             StockOperation::SendOff => take(a, b, n),
-            StockOperation::PlaceOrder => keep(a, b, a, b, say(StockMessage::Order, n)),
+            StockOperation::PlaceOrder => keep(a, b, a, b, sent(StockMessage::Order, n)),
         }
     }
 }

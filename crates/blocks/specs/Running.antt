@@ -1,8 +1,8 @@
 -- One command on a draft, and all commands of a block.
-use Rattle.std.specs.Prelude.{◌≡◌, ℕ, Bool, false, not, List, [], ◌∷◌, ◌++◌, Some, None, Ok, Err, Option, Result}
+use Rattle.std.specs.Prelude.{◌≡◌, ℕ, Bool, false, not, List, [], ◌∷◌, ◌++◌, Some, None, Option, Result}
 use Rattle.format.specs.Layout.{open_byte, change_byte, close_byte, execute_byte, receive_byte}
 use Rattle.format.specs.Values.{IdentifierValue, CommandValue, opens, changes, closes, executes, receives, BlockValue}
-use Rattle.format.specs.Outcomes.{refusal_at, Outcome, Refused, Passed, ◌>>=◌, ◌>>◌, check}
+use Rattle.format.specs.Outcomes.{refusal_at, Outcome, Passed, ◌>>=◌, ◌>>◌, check}
 use Rattle.committee.specs.Rules.{CommitteeValue}
 use Rattle.applications.specs.Steps.{ApplicationValue}
 use Rattle.books.specs.Values.{ChainValue, MarkValue, EntryValue, opening}
@@ -10,7 +10,7 @@ use Rattle.books.specs.Books.{Operation}
 use Rattle.reading.specs.Blocks.{commands_in, block_in}
 use Rattle.reading.specs.Cursors.{CursorValue, Handed}
 use Rattle.reading.specs.declared.command.CommandPart.{CommandPart}
-use Rattle.faults.specs.Refusals.{command_refusal}
+use Rattle.faults.specs.Refusals.{answered, command_refusal}
 use Rattle.faults.specs.declared.AtCommand.{AtCommand}
 use Rattle.faults.specs.declared.CommandFault.{CommandFault}
 use Rattle.protocol.specs.Execution.{child_allowed, RunState, Ran, entry, stepped, run_command, run_commands, executed, received}
@@ -38,13 +38,11 @@ abbrev pub step_draft : CommitteeValue → ApplicationValue → Marks → Identi
 step_draft C A M c h k d x = command_ran C A c h k d x >>= λ r. Passed (after_command M c d x r)
 
 abbrev pub step_answer : ℕ → Result (Unit {0}) CommandFault → DraftValue → Outcome DraftValue
-step_answer k (Ok u) d = Passed d
-step_answer k (Err f) d = Refused (command_refusal k f)
+step_answer k r d = answered (λ u. d) (command_refusal k) r
 
 -- a command that ran, or its refusal
 abbrev pub ran_answer : ℕ → Result RanCommand CommandFault → Outcome Ran
-ran_answer k (Ok r) = Passed (ran_value r)
-ran_answer k (Err f) = Refused (command_refusal k f)
+ran_answer k = answered ran_value (command_refusal k)
 
 abbrev pub byte_of : CommandValue → ℕ
 byte_of (opens child key) = open_byte
@@ -119,8 +117,7 @@ abbrev pub finished_value : DraftValue → Finished
 finished_value d = record { ran = record { state = d.state; sent = d.sent }; operations = d.operations }
 
 abbrev pub run_answer : Result Draft AtCommand → Outcome Finished
-run_answer (Ok d) = Passed (finished_value (draft_value d))
-run_answer (Err f) = Refused (command_refusal f.place f.fault)
+run_answer = answered (λ d. finished_value (draft_value d)) (λ f. command_refusal f.place f.fault)
 
 -- the next command as it lies in the frame, or none where all commands that can be read are behind the cursor
 abbrev pub Yields : CursorValue → CursorValue → Option CommandPart → Type 0

@@ -29,7 +29,7 @@ use reading::{Head, Request, read_request};
 use seals::Seals;
 
 // The record of a chain that has an owner.
-pub(crate) fn owned_record<B: Books>(books: &B, chain: &Identifier) -> Result<Record, CallFault>
+fn owned_record<B: Books>(books: &B, chain: &Identifier) -> Result<Record, CallFault>
     ensures value { chain_answer result ≡ owned (chain_in ((B.Books.meaning books.now).rows.record_at (identifier_value chain.now))) }
     ensures there { FoundAt (B.Books.meaning books.now).rows (identifier_value chain.now) result }
 {
@@ -40,7 +40,7 @@ pub(crate) fn owned_record<B: Books>(books: &B, chain: &Identifier) -> Result<Re
 }
 
 // Whether a block with this head stands at the next height of its chain, on the last digest.
-pub(crate) fn check_turn(row: &Record, head: &Head) -> Result<(), CallFault>
+fn check_turn(row: &Record, head: &Head) -> Result<(), CallFault>
     ensures { check_answer result ≡ in_turn (record_value row.now).chain (block_of (head_value head.now) []) }
 {
     if head.height > row.next {

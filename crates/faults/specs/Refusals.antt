@@ -40,10 +40,14 @@ call_refusal Committee = refusal 21
 call_refusal Roots = refusal 22
 call_refusal NotBlank = refusal 23
 
+-- what a result stands for, by the value of what it holds and the refusal of its fault
+abbrev pub answered : {T E V : Type 0} → (T → V) → (E → RefusalValue) → Result T E → Outcome V
+answered value refusal_of (Ok x) = Passed (value x)
+answered value refusal_of (Err f) = Refused (refusal_of f)
+
 -- what a call answers
 abbrev pub call_answer : Result Digest CallFault → Outcome DigestValue
-call_answer (Ok d) = Passed (digest_value d)
-call_answer (Err f) = Refused (call_refusal f)
+call_answer = answered digest_value call_refusal
 
 -- whole: the fault below is all there in the one above
 abbrev pub CarriesApplication : ApplicationFault → CommandFault → Type 0
