@@ -9,8 +9,8 @@ use Rattle.format.specs.Outcomes.{Passed}
 use Rattle.format.proofs.Same.{identifier_decides}
 use Rattle.books.specs.Values.{RecordValue, plus, minus, marking, LoadValue, opening, sent, OutgoingValue}
 use Rattle.books.specs.Counts.{Counts, counts}
-use Rattle.books.specs.Books.{Rows, BooksValue, Laws, Operation, chain_of, puts, put_record, put_mark, remove_mark, remove_outgoing, apply, apply_all, goes, Step, Changed, needed}
-use Rattle.books.proofs.Changes.{changed_push, needed_goes, needed_left}
+use Rattle.books.specs.Books.{Rows, BooksValue, put_record, put_mark, remove_mark, remove_outgoing, apply, apply_all, Step, Changed, needed}
+use Rattle.books.proofs.Changes.{changed_push}
 use Rattle.applications.specs.Steps.{ApplicationValue}
 use Rattle.protocol.specs.Calls.{new_record, made, record_or_new, unopened, with_owner, message_of, arrives, arrival, Ends, deliver}
 use Rattle.calls.specs.Arrivals.{missing, load_marks, arrival_counts}
@@ -50,21 +50,6 @@ arrival_needs A w n o = by_load o.load
     by_load (opening key) =
         opening_needs A w o.target (unopened (record_or_new A (w.record_at o.target))) (w.record_at o.target) (with_owner key (record_or_new A (w.record_at o.target))) refl
     by_load (sent code value) = message_needs A w o.target n code value (w.record_at o.target) refl _ _ refl refl
-
--- after the record was made, the plus mark goes in
-pub settles : (A : ApplicationValue) (m m' : BooksValue) (c : IdentifierValue) (k : Operation) → Laws m → Laws m' → puts k ≡ true → chain_of k ≡ c
-    → Changed m (made A c (m.rows.record_at c)) m' → m.fits c (needed m.rows (made A c (m.rows.record_at c) ++ (k ∷ []))) ≡ true → goes m' k ≡ true
-settles A m m' c k laws laws' p q h e = by_record (m.rows.record_at c) h e
-  where
-    last : m'.fits c (needed m'.rows (k ∷ [])) ≡ true → goes m' k ≡ true
-    last f = needed_goes m' k [] laws' p (ap (λ d. m'.fits d (needed m'.rows (k ∷ []))) q ∙ f)
-
-    by_record : (at : Option RecordValue) → Changed m (made A c at) m' → m.fits c (needed m.rows (made A c at ++ (k ∷ []))) ≡ true → goes m' k ≡ true
-    by_record (Some r) h' e' = last (subst (λ (z : BooksValue). z.fits c (needed z.rows (k ∷ [])) ≡ true) (sym h') e')
-    by_record None h' e' =
-        let n = h'.0 in
-        let f = needed_left m (put_record c (new_record A 0)) (k ∷ []) n laws h'.1 c e' in
-        last (subst (λ (z : BooksValue). z.fits c (needed z.rows (k ∷ [])) ≡ true) (sym h'.2) f)
 
 -- a record that was not found is a new one
 pub missing_is : {X Y : Type 0} (f : X → Y) (found : Option X) (at : Option Y) (t : Bool) → is_some found ≡ not t → option_map f found ≡ at → from_bool t ≡ missing at

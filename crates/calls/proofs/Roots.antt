@@ -33,9 +33,6 @@ module _ (ks : List Key) (i : ℕ) (d : Key) where
   records_more A h = at_drop_more (λ xs. root_records A i (keys_value xs)) ks i d h
 
 module _ (ks : List Key) (i : ℕ) (h : length ks ≤ i) where
-  pub fit_all : (B : BooksValue) (n : ℕ) → roots_fit B n i (keys_value (drop i ks)) ≡ true
-  fit_all B n = at_drop_all (λ xs. roots_fit B n i (keys_value xs)) ks i h
-
   pub records_all : (A : ApplicationValue) → root_records A i (keys_value (drop i ks)) ≡ []
   records_all A = at_drop_all (λ xs. root_records A i (keys_value xs)) ks i h
 
