@@ -1,6 +1,5 @@
 -- Tests and searches over lists of rows.
-use Rattle.std.proofs.Common.{◌≡◌, ℕ, suc, ◌+◌, ◌<◌, ◌≤◌, Bool, true, false, ◌||◌, ◌⊎◌, List, [], ◌∷◌, length, get_or, drop, sym, refl, ap, ◌∙◌, subst, inl, inr, arith}
-use Rattle.std.proofs.lemmas.List.{at_drop_more, at_drop_all}
+use Rattle.std.proofs.Common.{◌≡◌, ℕ, suc, ◌<◌, Bool, true, ◌⊎◌, List, [], ◌∷◌, length, get_or, sym, refl, subst, inl, inr, arith}
 use Rattle.std.proofs.lemmas.Bool.{false≢true, or_cases, or_left, or_right}
 use Rattle.books.specs.Lists.{any}
 
@@ -30,17 +29,3 @@ pub in_any : {R : Type 0} (test : R → Bool) (rs : List R) (r : R) → In r rs 
 in_any test [] r m e = absurd m
 in_any test (x ∷ xs) r (inl h) e = or_left (test x) (any test xs) (subst (λ z. test z ≡ true) h e)
 in_any test (x ∷ xs) r (inr h) e = or_right (test x) (any test xs) (in_any test xs r h e)
-
--- a loop that leaves at the first row of which a test holds
-module _ {R : Type 0} (test : R → Bool) (rs : List R) (i : ℕ) (so_far : any test (drop i rs) ≡ any test rs) where
-  here : (r : R) → i < length rs → r ≡ get_or rs i r → any test rs ≡ (test r || any test (drop (i + 1) rs))
-  here r l e = sym so_far ∙ at_drop_more (any test) rs i r l ∙ ap (λ x. test x || any test (drop (i + 1) rs)) (sym e)
-
-  pub any_found : (r : R) → i < length rs → r ≡ get_or rs i r → test r ≡ true → true ≡ any test rs
-  any_found r l e h = sym (here r l e ∙ ap (λ t. t || any test (drop (i + 1) rs)) h)
-
-  pub any_more : (r : R) → i < length rs → r ≡ get_or rs i r → test r ≡ false → any test (drop (i + 1) rs) ≡ any test rs
-  any_more r l e h = sym (here r l e ∙ ap (λ t. t || any test (drop (i + 1) rs)) h)
-
-  pub any_none : length rs ≤ i → false ≡ any test rs
-  any_none l = sym (at_drop_all (any test) rs i l) ∙ so_far

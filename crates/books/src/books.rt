@@ -11,7 +11,8 @@ use crate::rows::{Mark, NewRows, Outgoing, Record};
 use crate::side::Side;
 use format::{Identifier, Name};
 
-/// Books: the store of a validator's rows. Questions change nothing.
+/// Books: the store of a validator's rows. Questions change nothing. Each kind of row has methods of its own, since it has
+/// another key and another part in the meaning; a put answers a `bool`, as an `insert` of std's sets does.
 pub trait Books {
     // The rows and what fits.
     ghost meaning: { Self → BooksValue };

@@ -6,7 +6,6 @@ use Rattle.std.proofs.ByRecursion.{All-get_or, All-take}
 use Rattle.std.proofs.lemmas.List.{nil_from_length, take_all, take_more, length-take-le}
 use Rattle.std.specs.List.{flat_map, AllByRecursion}
 pub use Rattle.hash.proofs.Lists.{map_by_places, chunk_length}
-use Rattle.hash.proofs.Bytes.{word_from_bytes}
 use Rattle.hash.proofs.Lists.{written_out}
 use Rattle.format.specs.Numbers.{to_bytes, from_bytes}
 
@@ -22,12 +21,6 @@ length_joined f w each (x ∷ xs) =
 -- two, four and eight bytes, as the standard library reads them
 pub number_of_two : (bs : List ℕ) → length bs ≡ 2 → get_or bs 0 0 * 256 + get_or bs 1 0 ≡ from_bytes bs
 number_of_two bs e = omega arith ∙ ap from_bytes (sym (written_out bs 2 e))
-
-pub number_of_four : (bs : List ℕ) → length bs ≡ 4 → get_or bs 0 0 * 16777216 + get_or bs 1 0 * 65536 + get_or bs 2 0 * 256 + get_or bs 3 0 ≡ from_bytes bs
-number_of_four = word_from_bytes
-
-pub number_of_eight : (bs : List ℕ) → length bs ≡ 8 → get_or bs 0 0 * 72057594037927936 + get_or bs 1 0 * 281474976710656 + get_or bs 2 0 * 1099511627776 + get_or bs 3 0 * 4294967296 + get_or bs 4 0 * 16777216 + get_or bs 5 0 * 65536 + get_or bs 6 0 * 256 + get_or bs 7 0 ≡ from_bytes bs
-number_of_eight bs e = omega arith ∙ ap from_bytes (sym (written_out bs 8 e))
 
 -- a number in enough bytes is read back
 pub number_back : (w n : ℕ) → n < 256 ^ w → from_bytes (to_bytes w n) ≡ n

@@ -1,6 +1,7 @@
 -- Bytes written one after another.
-use Rattle.std.proofs.Common.{◌≡◌, ℕ, ◌+◌, ◌-◌, ◌<◌, ◌≤◌, List, [], ◌∷◌, ◌++◌, length, get_or, take, drop, sym, refl, ap, ◌∙◌, subst, append_assoc, append-nil, add-zero, arith, length-append, length-drop, take-append-drop, length-take, take_all}
+use Rattle.std.proofs.Common.{◌≡◌, ℕ, ◌+◌, ◌-◌, ◌<◌, ◌≤◌, List, [], ◌∷◌, ◌++◌, length, get_or, take, drop, sym, ap, ◌∙◌, subst, append_assoc, append-nil, add-zero, arith, length-append, length-drop, take-append-drop, length-take, take_all}
 use Rattle.std.proofs.lemmas.List.{take_at, drop_at, drop-drop, drop_all, take_more, at_drop_more}
+use Rattle.std.proofs.lemmas.Grind.{flat_map-append}
 use Rattle.std.specs.List.{flat_map}
 use Rattle.format.specs.Writing.{written, Wrote}
 
@@ -59,15 +60,11 @@ written_part d a x w e =
 
 -- items written one after another, each by its bytes
 module _ {X : Type 0} (f : X → List ℕ) where
-  joined_append : (xs ys : List X) → flat_map f (xs ++ ys) ≡ flat_map f xs ++ flat_map f ys
-  joined_append [] ys = refl
-  joined_append (x ∷ xs) ys = ap (λ z. f x ++ z) (joined_append xs ys) ∙ sym (append_assoc (f x) (flat_map f xs) (flat_map f ys))
-
   module _ (xs : List X) (i : ℕ) (x : X) (h : i < length xs) (e : x ≡ get_or xs i x) where
     pub joined_take : flat_map f (take i xs) ++ f x ≡ flat_map f (take (i + 1) xs)
     joined_take =
         ap (λ z. flat_map f (take i xs) ++ z) (sym (append-nil (f x)))
-        ∙ sym (joined_append (take i xs) (x ∷ []))
+        ∙ sym (flat_map-append f (take i xs) (x ∷ []))
         ∙ ap (λ y. flat_map f (take i xs ++ (y ∷ []))) e
         ∙ ap (flat_map f) (sym (take_more xs i x h))
 
@@ -79,7 +76,7 @@ module _ {X : Type 0} (f : X → List ℕ) where
 
     pub item_fits : length (flat_map f (take i xs)) + length (f x) ≤ length (flat_map f xs)
     item_fits =
-        let whole = ap length (sym (joined_append (take i xs) (drop i xs)) ∙ ap (flat_map f) (take-append-drop i xs)) in
+        let whole = ap length (sym (flat_map-append f (take i xs) (drop i xs)) ∙ ap (flat_map f) (take-append-drop i xs)) in
         let parts = length-append (flat_map f (take i xs)) (flat_map f (drop i xs)) in
         omega (arith, whole, parts, length_joined_drop)
 

@@ -63,12 +63,12 @@ pub fn value_to_bytes(value: i64) -> [u8; VALUE_LEN]
     ensures bytes { result ≡ signed_bytes value }
     ensures fits { FitsSigned w64 value }
 {
-    value.cast_unsigned().to_be_bytes()
+    value.to_be_bytes()
 }
 
 /// The signed number that the bytes are in two's complement.
 pub fn value_from_bytes(bytes: [u8; VALUE_LEN]) -> i64
     ensures { result ≡ signed_number bytes }
 {
-    u64::from_be_bytes(bytes).cast_signed()
+    i64::from_be_bytes(bytes)
 }

@@ -52,7 +52,7 @@ pub const RECEIVE_LEN: usize = NAME_LEN + CODE_LEN + VALUE_LEN;
 
 pub const MAX_BLOCK_LEN: usize = HEAD_LEN + MAX_COMMANDS * (COMMAND_BYTE_LEN + RECEIVE_LEN);
 
-// Command bytes.
+// Command bytes. Numbers, since running a block matches on the byte as it lies in the frame.
 pub const OPEN: u8 = 1;
 
 pub const CHANGE: u8 = 2;

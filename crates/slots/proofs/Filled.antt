@@ -32,6 +32,3 @@ adds_then {n} {w} {w₁} {w₂} {x} {y} a b = record { added = b.added ∙ ap (�
 -- all that was written, in a slot of zeros
 pub adds_filled : {w w' : Writer slot_len} {x s : List ℕ} → contents w ≡ [] → Adds w x w' → s ≡ filled (contents w') → s ≡ filled x
 adds_filled {w} {w'} {x} e a f = f ∙ ap filled (a.added ∙ ap (λ z. z ++ x) e)
-
-pub length_added : {n k : ℕ} {w w' : Writer n} {x : List ℕ} → Adds w x w' → length x ≡ k → length (contents w') ≡ length (contents w) + k
-length_added {w = w} {x = x} a e = ap length a.added ∙ length-append (contents w) x ∙ ap (λ k. length (contents w) + k) e

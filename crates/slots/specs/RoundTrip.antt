@@ -3,7 +3,8 @@ use Rattle.std.specs.Prelude.{◌≡◌, ℕ, ◌^◌, ◌<◌, List, length, So
 use Rattle.std.specs.Int.{w64}
 use Rattle.format.specs.Layout.{height_len, digest_len, key_len}
 use Rattle.format.specs.Identifiers.{Identifies}
-use Rattle.format.specs.Values.{IdentifierValue, DigestValue, NameValue, MessageValue}
+pub use Rattle.format.specs.Fits.{NameFits, MessageFits}
+use Rattle.format.specs.Values.{IdentifierValue, DigestValue}
 use Rattle.books.specs.Values.{RecordValue, MarkValue, LoadValue, opening, sent, EntryValue}
 use Rattle.slots.specs.Layout.{slot_len}
 use Rattle.slots.specs.Rows.{RowValue, holds_record, holds_mark, holds_outgoing, RowKey, by_identifier, by_mark, by_name}
@@ -11,14 +12,6 @@ use Rattle.slots.specs.Bytes.{row_bytes, slot_bytes}
 use Rattle.slots.specs.Reading.{row_in}
 
 -- values that have the widths of their fields
-pub record NameFits (n : NameValue) : Type 0 where
-  pub sender : Identifies n.sender
-  pub height : n.height < 256 ^ height_len
-
-pub record MessageFits (m : MessageValue) : Type 0 where
-  pub name : NameFits m.name
-  pub value : FitsSigned w64 m.value
-
 abbrev pub VoteFits : Option DigestValue → Type 0
 VoteFits None = Unit {0}
 VoteFits (Some d) = length d ≡ digest_len

@@ -2,7 +2,6 @@
 ghost use Rattle.std.specs.Prelude.{◌≡◌, ◌+◌, ◌≤◌};
 ghost use Rattle.std.specs.Option.{option_map};
 ghost use Rattle.format.specs.Meaning.{digest_value, identifier_value, name_value};
-ghost use Rattle.format.specs.Numbers.{from_bytes, signed_number};
 ghost use Rattle.books.specs.Meaning.{entry_value, load_value, record_row};
 ghost use Rattle.slots.specs.Layout.{chain_at, slot_len};
 ghost use Rattle.slots.specs.Reading.{entry_in, field as spec_field, home_in, name_at, opening_in, outgoing_part, record_fields, record_part, row_in, sent_in, vote_in as spec_vote_in};
@@ -13,8 +12,8 @@ use crate::layout::{
     VOTE_AT, VOTED, VOTED_AT,
 };
 use books::{Load, Outgoing, Record};
-use format::layout::{HEIGHT_LEN, IDENTIFIER_LEN, KEY_LEN, VALUE_LEN};
-use format::{Digest, Height, Identifier, Key, Name};
+use format::layout::{HEIGHT_LEN, IDENTIFIER_LEN};
+use format::{Digest, Height, Identifier, Key, Name, value_from_bytes};
 use reading::read_identifier;
 
 // The bytes of a slot from a place on.
@@ -25,24 +24,6 @@ fn field<const N: usize>(slot: &[u8; SLOT_LEN], at: usize) -> [u8; N]
     let mut bytes = [0; N];
     bytes.copy_from_slice(&slot[at..at + N]);
     bytes
-}
-
-fn key_of(bytes: [u8; KEY_LEN]) -> Key
-    ensures { result.0 ≡ from_bytes bytes }
-{
-    Key(u32::from_be_bytes(bytes))
-}
-
-fn height_of(bytes: [u8; HEIGHT_LEN]) -> Height
-    ensures { result.0 ≡ from_bytes bytes }
-{
-    Height(u16::from_be_bytes(bytes))
-}
-
-fn value_of(bytes: [u8; VALUE_LEN]) -> i64
-    ensures { result ≡ signed_number bytes }
-{
-    i64::from_be_bytes(bytes)
 }
 
 fn vote_in(slot: &[u8; SLOT_LEN]) -> Option<Digest>
@@ -62,13 +43,13 @@ fn record_of(identifier: Identifier, slot: &[u8; SLOT_LEN]) -> Record
 {
     Record {
         identifier,
-        owner: key_of(field(slot, OWNER_AT)),
-        next: height_of(field(slot, NEXT_AT)),
+        owner: Key::from_bytes(field(slot, OWNER_AT)),
+        next: Height::from_bytes(field(slot, NEXT_AT)),
         last: Digest {
             bytes: field(slot, LAST_AT),
         },
-        a: value_of(field(slot, A_AT)),
-        b: value_of(field(slot, B_AT)),
+        a: value_from_bytes(field(slot, A_AT)),
+        b: value_from_bytes(field(slot, B_AT)),
         vote: vote_in(slot),
     }
 }
@@ -91,7 +72,7 @@ fn name_in(slot: &[u8; SLOT_LEN]) -> Option<Name>
 {
     Some(Name {
         sender: read_identifier(&slot[CHAIN_AT..CHAIN_AT + IDENTIFIER_LEN])?,
-        height: height_of(field(slot, CHAIN_AT + IDENTIFIER_LEN)),
+        height: Height::from_bytes(field(slot, CHAIN_AT + IDENTIFIER_LEN)),
         index: slot[CHAIN_AT + IDENTIFIER_LEN + HEIGHT_LEN],
     })
 }
@@ -100,7 +81,7 @@ fn opening_load(slot: &[u8; SLOT_LEN]) -> Load
     ensures { load_value result ≡ opening_in slot.now }
 {
     Load::Opening {
-        key: key_of(field(slot, LOAD_AT)),
+        key: Key::from_bytes(field(slot, LOAD_AT)),
     }
 }
 
@@ -109,7 +90,7 @@ fn sent_load(slot: &[u8; SLOT_LEN]) -> Load
 {
     Load::Sent {
         code: slot[LOAD_AT],
-        value: value_of(field(slot, SENT_VALUE_AT)),
+        value: value_from_bytes(field(slot, SENT_VALUE_AT)),
     }
 }
 

@@ -19,8 +19,8 @@ use crate::kind::Kind;
 use crate::layout::{SLOT_LEN, VOTE_BYTE_LEN, VOTED};
 use crate::writer::Writer;
 use books::{Load, Mark, Outgoing, Record, Sign};
-use format::layout::{DIGEST_LEN, HEIGHT_LEN, KEY_LEN, VALUE_LEN};
-use format::{Digest, Height, Key, Message, Name};
+use format::layout::DIGEST_LEN;
+use format::{Digest, value_to_bytes};
 
 pub(crate) fn kind_of_sign(sign: Sign) -> Kind
     ensures { kind_byte result ≡ sign_byte (sign_value sign) }
@@ -40,49 +40,6 @@ fn kind_of_load(load: Load) -> Kind
     }
 }
 
-fn key_bytes(key: Key) -> [u8; KEY_LEN]
-    ensures bytes { result ≡ to_bytes key_len key.0 }
-    ensures fits { key.0 < 256 ^ key_len }
-{
-    key.0.to_be_bytes()
-}
-
-fn height_bytes(height: Height) -> [u8; HEIGHT_LEN]
-    ensures bytes { result ≡ to_bytes height_len height.0 }
-    ensures fits { height.0 < 256 ^ height_len }
-{
-    height.0.to_be_bytes()
-}
-
-fn value_bytes(value: i64) -> [u8; VALUE_LEN]
-    ensures bytes { result ≡ signed_bytes value }
-    ensures fits { FitsSigned w64 value }
-{
-    value.to_be_bytes()
-}
-
-#[tactic(auto, unfolding(format::specs::Bytes::name_bytes))]
-pub(crate) fn add_name<const N: usize>(writer: &mut Writer<N>, name: &Name)
-    requires { length (contents writer.old) + name_len ≤ N }
-    ensures wrote { Adds writer.old (name_bytes (name_value name.now)) writer.new }
-    ensures fits { NameFits (name_value name.now) }
-{
-    writer.add(&name.sender.to_bytes());
-    writer.add(&height_bytes(name.height));
-    writer.add(&[name.index]);
-}
-
-#[tactic(auto, using(format::proofs::Lengths::length_name))]
-fn add_message<const N: usize>(writer: &mut Writer<N>, message: &Message)
-    requires { length (contents writer.old) + receive_len ≤ N }
-    ensures wrote { Adds writer.old (message_bytes (message_value message.now)) writer.new }
-    ensures fits { MessageFits (message_value message.now) }
-{
-    add_name(writer, &message.name);
-    writer.add(&[message.code]);
-    writer.add(&value_bytes(message.value));
-}
-
 // A mark's target and message.
 pub(crate) fn add_mark<const N: usize>(writer: &mut Writer<N>, mark: &Mark)
     requires { length (contents writer.old) + max_prefix_len ≤ N }
@@ -90,7 +47,7 @@ pub(crate) fn add_mark<const N: usize>(writer: &mut Writer<N>, mark: &Mark)
     ensures fits { MarkFits (mark_value mark.now) }
 {
     writer.add(&mark.target.to_bytes());
-    add_message(writer, &mark.message);
+    writer.add(&mark.message.to_bytes());
 }
 
 // A byte 1 before the voted digest, or zeros for none.
@@ -115,10 +72,10 @@ fn add_load(slot: &mut Writer<SLOT_LEN>, load: Load)
     ensures fits { LoadFits (load_value load) }
 {
     match load {
-        Load::Opening { key } => slot.add(&key_bytes(key)),
+        Load::Opening { key } => slot.add(&key.to_bytes()),
         Load::Sent { code, value } => {
             slot.add(&[code]);
-            slot.add(&value_bytes(value));
+            slot.add(&value_to_bytes(value));
         }
     }
 }
@@ -133,11 +90,11 @@ pub fn encode_record(row: &Record) -> [u8; SLOT_LEN]
     let mut slot = Writer::new();
     slot.add(&[Kind::Record as u8]);
     slot.add(&row.identifier.to_bytes());
-    slot.add(&key_bytes(row.owner));
-    slot.add(&height_bytes(row.next));
+    slot.add(&row.owner.to_bytes());
+    slot.add(&row.next.to_bytes());
     slot.add(&row.last.bytes);
-    slot.add(&value_bytes(row.a));
-    slot.add(&value_bytes(row.b));
+    slot.add(&value_to_bytes(row.a));
+    slot.add(&value_to_bytes(row.b));
     add_vote(&mut slot, row.vote);
     slot.into_bytes()
 }
@@ -164,7 +121,7 @@ pub fn encode_outgoing(row: &Outgoing) -> [u8; SLOT_LEN]
 {
     let mut slot = Writer::new();
     slot.add(&[kind_of_load(row.load).into()]);
-    add_name(&mut slot, &row.name);
+    slot.add(&row.name.to_bytes());
     slot.add(&row.target.to_bytes());
     add_load(&mut slot, row.load);
     slot.into_bytes()

@@ -6,7 +6,7 @@ ghost use Rattle.slots.specs.Prefixes.{key_prefix, prefix_value};
 ghost use Rattle.slots.specs.RoundTrip.{KeyFits};
 ghost use Rattle.slots.specs.Rows.{RowKey, by_identifier, by_mark, by_name};
 
-use crate::encoding::{add_mark, add_name, kind_of_sign};
+use crate::encoding::{add_mark, kind_of_sign};
 use crate::kind::Kind;
 use crate::prefix::Prefix;
 use crate::writer::Writer;
@@ -49,7 +49,7 @@ impl SlotKey for Name {
 
     fn prefix(&self) -> Prefix {
         let mut key = Writer::new();
-        add_name(&mut key, self);
+        key.add(&self.to_bytes());
         Prefix::new(Kind::Opening, Kind::Message, key)
     }
 }

@@ -28,8 +28,8 @@ fn are_zero(numbers: &[Number]) -> bool
 fn is_well_formed(depth: u8, numbers: &[Number; MAX_DEPTH]) -> bool
     ensures { result ≡ well_formed depth numbers.now }
 {
-    let used = depth as usize;
-    used >= 1 && used <= MAX_DEPTH && are_zero(&numbers[used..])
+    let used = usize::from(depth);
+    (1..=MAX_DEPTH).contains(&used) && are_zero(&numbers[used..])
 }
 
 impl Identifier {
@@ -68,7 +68,7 @@ impl Identifier {
         ensures equality { (x y : Identifier) → ⟦<Identifier as PartialEq>⟧.eq x y ≡ same_identifier (identifier_value x) (identifier_value y) }
         ensures order { (x y : Identifier) → ⟦<Identifier as Ord>⟧.cmp x y ≡ order_identifiers (identifier_value x) (identifier_value y) }
     {
-        &self.numbers[0..self.depth as usize]
+        &self.numbers[..usize::from(self.depth)]
     }
 
     /// The depth, then four numbers. Every identifier fits these bytes.

@@ -8,12 +8,12 @@ use Rattle.slots.proofs.decoding.record_of.Goals as goal
 pub returns : goal.returns
 unfolding record_fields
 returns c =
-    let fits_a : SFits w64 c.value_of.result = search rules in
-    let fits_b : SFits w64 c.value_of-2.result = search rules in
-    let a = to_z-of_z w64 c.value_of.result fits_a ∙ c.value_of.ensures ∙ ap signed_number c.field-4.ensures in
-    let b = to_z-of_z w64 c.value_of-2.result fits_b ∙ c.value_of-2.ensures ∙ ap signed_number c.field-5.ensures in
-    let owner = c.key_of.ensures ∙ ap from_bytes c.field.ensures in
-    let next = c.height_of.ensures ∙ ap from_bytes c.field-2.ensures in
+    let fits_a : SFits w64 c.value_from_bytes.result = search rules in
+    let fits_b : SFits w64 c.value_from_bytes-2.result = search rules in
+    let a = to_z-of_z w64 c.value_from_bytes.result fits_a ∙ c.value_from_bytes.ensures ∙ ap signed_number c.field-4.ensures in
+    let b = to_z-of_z w64 c.value_from_bytes-2.result fits_b ∙ c.value_from_bytes-2.ensures ∙ ap signed_number c.field-5.ensures in
+    let owner = c.from_bytes.ensures ∙ ap from_bytes c.field.ensures in
+    let next = c.from_bytes-2.ensures ∙ ap from_bytes c.field-2.ensures in
     λ i. (
       identifier_value c.args.identifier,
       record { chain = record { owner = owner i; next = next i; digest = c.field-3.ensures i; a = a i; b = b i }; vote = c.vote_in.ensures i },

@@ -14,10 +14,10 @@ returns-clause-bytes c =
     adds_filled c.new-slot.ensures
     (adds_then c.add.ensures
     (adds_then (adds_as c.add-2.ensures c.to_bytes.ensures.bytes)
-    (adds_then (adds_as c.add-3.ensures c.key_bytes.ensures.bytes)
-    (adds_then (adds_as c.add-4.ensures c.height_bytes.ensures.bytes)
+    (adds_then (adds_as c.add-3.ensures c.to_bytes-2.ensures.bytes)
+    (adds_then (adds_as c.add-4.ensures c.to_bytes-3.ensures.bytes)
     (adds_then c.add-5.ensures
-    (adds_then (adds_as c.add-6.ensures (c.value_bytes.ensures.bytes ∙ ap signed_bytes (to_z-of_z w64 row.a fits_a)))
-    (adds_then (adds_as c.add-7.ensures (c.value_bytes-2.ensures.bytes ∙ ap signed_bytes (to_z-of_z w64 row.b fits_b)))
+    (adds_then (adds_as c.add-6.ensures (c.value_to_bytes.ensures.bytes ∙ ap signed_bytes (to_z-of_z w64 row.a fits_a)))
+    (adds_then (adds_as c.add-7.ensures (c.value_to_bytes-2.ensures.bytes ∙ ap signed_bytes (to_z-of_z w64 row.b fits_b)))
     c.add_vote.ensures.wrote)))))))
     c.into_bytes.ensures
