@@ -65,6 +65,7 @@ pub struct Ran {
 
 /// The chain after the commands so far, whether the last one is a Close and one an Open, the changes of marks, and the
 /// rows sent.
+// Two flags and no enum: the checks ask for each by itself.
 #[derive(Drop)]
 pub struct Draft {
     pub state: State,
