@@ -41,13 +41,13 @@ record_found d o k None e = tt
 record_found d o k (Some x) e = at o k e
   where
     at : (o : Option RowValue) → OfKey (by_identifier d) o → Some (record_row x) ≡ record_part o → record_key x ≡ d
-    at None k e = let z : ◌≡◌ {A = ℕ} 0 1 = cc in absurd (omega arith)
+    at None k e = cc
     at (Some (holds_record c r)) k e =
         let row : record_row x ≡ (c, r) = cc in
         let same : c ≡ d = cc in
         ap (λ z. z.0) row ∙ same
-    at (Some (holds_mark m)) k e = let z : ◌≡◌ {A = ℕ} 0 1 = cc in absurd (omega arith)
-    at (Some (holds_outgoing y)) k e = let z : ◌≡◌ {A = ℕ} 0 1 = cc in absurd (omega arith)
+    at (Some (holds_mark m)) k e = cc
+    at (Some (holds_outgoing y)) k e = cc
 
 pub outgoing_found : (n : NameValue) (o : Option RowValue) → OfKey (by_name n) o → (r : Option Outgoing) → option_map entry_value r ≡ outgoing_part o
     → IfSome r (λ x. outgoing_key x ≡ n)
@@ -55,9 +55,9 @@ outgoing_found n o k None e = tt
 outgoing_found n o k (Some x) e = at o k e
   where
     at : (o : Option RowValue) → OfKey (by_name n) o → Some (entry_value x) ≡ outgoing_part o → outgoing_key x ≡ n
-    at None k e = let z : ◌≡◌ {A = ℕ} 0 1 = cc in absurd (omega arith)
-    at (Some (holds_record c r)) k e = let z : ◌≡◌ {A = ℕ} 0 1 = cc in absurd (omega arith)
-    at (Some (holds_mark m)) k e = let z : ◌≡◌ {A = ℕ} 0 1 = cc in absurd (omega arith)
+    at None k e = cc
+    at (Some (holds_record c r)) k e = cc
+    at (Some (holds_mark m)) k e = cc
     at (Some (holds_outgoing y)) k e =
         let row : entry_value x ≡ y = cc in
         let same : y.name ≡ n = cc in

@@ -1,11 +1,13 @@
 -- The earliest outgoing row of cells is the least of the rows that they hold.
-use Rattle.std.proofs.Common.{◌≡◌, ℕ, ◌+◌, ◌<◌, ◌≤◌, Bool, true, false, ◌⊎◌, [], ◌∷◌, ◌++◌, length, get_or, take, Some, None, Option, sym, refl, ap, ◌∙◌, subst, inl, inr, arith}
+use Rattle.std.proofs.Common.{◌≡◌, ℕ, ◌+◌, ◌<◌, ◌≤◌, Bool, true, false, cond, ◌⊎◌, [], ◌∷◌, ◌++◌, length, get_or, take, Some, None, Option, sym, refl, ap, ◌∙◌, subst, inl, inr}
 use Rattle.std.proofs.lemmas.List.{take_more, take_all}
 use Rattle.std.proofs.lemmas.Bool.{cases_Bool, both_ways}
 use Rattle.std.specs.Option.{option_map}
 use Rattle.format.specs.Values.{IdentifierValue}
 use Rattle.books.specs.Values.{EntryValue}
-use Rattle.books.specs.Order.{before, Stands, Least}
+use Rattle.books.specs.Meaning.{entry_value}
+use Rattle.books.specs.Order.{before, Stands, Least, earlier}
+use Rattle.books.specs.declared.rows.Outgoing.{Outgoing}
 use Rattle.books.proofs.Lists.{split, In}
 use Rattle.books.proofs.Orders.{strict_order, stays_behind}
 use Rattle.slots.specs.Rows.{RowValue, holds_record, holds_mark, holds_outgoing, by_name}
@@ -13,6 +15,15 @@ use Rattle.slots.specs.Reading.{outgoing_part}
 use Rattle.slots.specs.Cells.{Cells, apart, rows_of}
 use Rattle.slots.proofs.Celled.{look_in, look_row, found_outgoing}
 use Rattle.image.specs.Waiting.{earlier_entry, earlier_cell}
+
+-- the earlier of two rows, as values
+pub earlier_is : (best : Option Outgoing) (x : Outgoing) → option_map entry_value (earlier best (Some x)) ≡ earlier_entry (option_map entry_value best) (entry_value x)
+earlier_is None x = refl
+earlier_is (Some y) x = at (before (entry_value x) (entry_value y))
+  where
+    at : (b : Bool) → option_map entry_value (cond b (Some x) (Some y)) ≡ cond b (Some (entry_value x)) (Some (entry_value y))
+    at true = refl
+    at false = refl
 
 module _ (test : IdentifierValue → Bool) where
   -- an outgoing row of the cells that the test chooses
@@ -77,12 +88,12 @@ module _ (test : IdentifierValue → Bool) where
 
   -- the row of a cell
   outgoing_none : (o : Option RowValue) → outgoing_part o ≡ None → (e : EntryValue) → o ≡ Some (holds_outgoing e) → ⊥
-  outgoing_none o h e d = let k : None ≡ Some e = sym h ∙ ap outgoing_part d in let z : ◌≡◌ {A = ℕ} 0 1 = cc in omega arith
+  outgoing_none o h e d = let k : None ≡ Some e = sym h ∙ ap outgoing_part d in cc
 
   outgoing_some : (o : Option RowValue) (y : EntryValue) → outgoing_part o ≡ Some y → o ≡ Some (holds_outgoing y)
-  outgoing_some None y h = let z : ◌≡◌ {A = ℕ} 0 1 = cc in absurd (omega arith)
-  outgoing_some (Some (holds_record c r)) y h = let z : ◌≡◌ {A = ℕ} 0 1 = cc in absurd (omega arith)
-  outgoing_some (Some (holds_mark m)) y h = let z : ◌≡◌ {A = ℕ} 0 1 = cc in absurd (omega arith)
+  outgoing_some None y h = cc
+  outgoing_some (Some (holds_record c r)) y h = cc
+  outgoing_some (Some (holds_mark m)) y h = cc
   outgoing_some (Some (holds_outgoing e)) y h = let d : e ≡ y = cc in ap (λ x. Some (holds_outgoing x)) d
 
   one_more : (os : Cells) (o : Option RowValue) (r : Option EntryValue) (p : Option EntryValue) → outgoing_part o ≡ p → LeastIn os r → LeastIn (os ++ o ∷ []) (earlier_cell test r p)

@@ -31,17 +31,17 @@ both_hold false true f g = g refl
 both_hold false false f g = refl
 
 none≢some : {X : Type 0} {x : X} → ◌≡◌ {A = Option X} None (Some x) → ⊥
-none≢some e = let z : ◌≡◌ {A = ℕ} 0 1 = cc in omega arith
+none≢some e = cc
 
 pub key_decides : (x y : RowKey) → Decides (same_key x y) (x ≡ y)
 key_decides (by_identifier c) (by_identifier d) = (λ e. ap by_identifier ((identifier_decides c d).0 e), λ e. (identifier_decides c d).1 (let h : c ≡ d = cc in h))
-key_decides (by_identifier c) (by_mark m) = (λ e. absurd (false≢true e), λ e. let z : ◌≡◌ {A = ℕ} 0 1 = cc in absurd (omega arith))
-key_decides (by_identifier c) (by_name n) = (λ e. absurd (false≢true e), λ e. let z : ◌≡◌ {A = ℕ} 0 1 = cc in absurd (omega arith))
-key_decides (by_mark m) (by_identifier d) = (λ e. absurd (false≢true e), λ e. let z : ◌≡◌ {A = ℕ} 0 1 = cc in absurd (omega arith))
+key_decides (by_identifier c) (by_mark m) = (λ e. absurd (false≢true e), λ e. cc)
+key_decides (by_identifier c) (by_name n) = (λ e. absurd (false≢true e), λ e. cc)
+key_decides (by_mark m) (by_identifier d) = (λ e. absurd (false≢true e), λ e. cc)
 key_decides (by_mark m) (by_mark k) = (λ e. ap by_mark ((mark_decides m k).0 e), λ e. (mark_decides m k).1 (let h : m ≡ k = cc in h))
-key_decides (by_mark m) (by_name n) = (λ e. absurd (false≢true e), λ e. let z : ◌≡◌ {A = ℕ} 0 1 = cc in absurd (omega arith))
-key_decides (by_name n) (by_identifier d) = (λ e. absurd (false≢true e), λ e. let z : ◌≡◌ {A = ℕ} 0 1 = cc in absurd (omega arith))
-key_decides (by_name n) (by_mark m) = (λ e. absurd (false≢true e), λ e. let z : ◌≡◌ {A = ℕ} 0 1 = cc in absurd (omega arith))
+key_decides (by_mark m) (by_name n) = (λ e. absurd (false≢true e), λ e. cc)
+key_decides (by_name n) (by_identifier d) = (λ e. absurd (false≢true e), λ e. cc)
+key_decides (by_name n) (by_mark m) = (λ e. absurd (false≢true e), λ e. cc)
 key_decides (by_name n) (by_name k) = (λ e. ap by_name ((name_decides n k).0 e), λ e. (name_decides n k).1 (let h : n ≡ k = cc in h))
 
 -- ---- what it means to begin with a prefix

@@ -31,7 +31,7 @@ look_of (Some v ∷ os) k = split (cases_Bool (same_key (row_key v) k))
     (λ e. rw e (look_of os k))
 
 pub look_in : (os : Cells) (k : RowKey) (v : RowValue) → look os k ≡ Some v → In (Some v) os
-look_in [] k v e = let z : ◌≡◌ {A = ℕ} 0 1 = cc in absurd (omega arith)
+look_in [] k v e = cc
 look_in (o ∷ os) k v e = split (cases_Bool (has_key k o))
     (λ t. inl (sym (rw t at e)))
     (λ t. inr (look_in os k v (rw t at e)))
@@ -49,20 +49,20 @@ in_look (o ∷ os) v (inr h) = split (cases_Bool (has_key (row_key v) o))
 
 -- a row by its kind of key
 a_mark_row : (v : RowValue) (m : MarkValue) → row_key v ≡ by_mark m → v ≡ holds_mark m
-a_mark_row (holds_record c r) m e = let z : ◌≡◌ {A = ℕ} 0 1 = cc in absurd (omega arith)
+a_mark_row (holds_record c r) m e = cc
 a_mark_row (holds_mark k) m e = let h : k ≡ m = cc in ap holds_mark h
-a_mark_row (holds_outgoing o) m e = let z : ◌≡◌ {A = ℕ} 0 1 = cc in absurd (omega arith)
+a_mark_row (holds_outgoing o) m e = cc
 
 some_record : (c : IdentifierValue) (o : Option RowValue) → OfKey (by_identifier c) o → is_some (option_map (λ x. x.1) (record_part o)) ≡ is_some o
 some_record c None h = refl
 some_record c (Some (holds_record d r)) h = refl
-some_record c (Some (holds_mark m)) h = let z : ◌≡◌ {A = ℕ} 0 1 = cc in absurd (omega arith)
-some_record c (Some (holds_outgoing e)) h = let z : ◌≡◌ {A = ℕ} 0 1 = cc in absurd (omega arith)
+some_record c (Some (holds_mark m)) h = cc
+some_record c (Some (holds_outgoing e)) h = cc
 
 some_outgoing : (n : NameValue) (o : Option RowValue) → OfKey (by_name n) o → is_some (option_map (λ e. e.row) (outgoing_part o)) ≡ is_some o
 some_outgoing n None h = refl
-some_outgoing n (Some (holds_record d r)) h = let z : ◌≡◌ {A = ℕ} 0 1 = cc in absurd (omega arith)
-some_outgoing n (Some (holds_mark m)) h = let z : ◌≡◌ {A = ℕ} 0 1 = cc in absurd (omega arith)
+some_outgoing n (Some (holds_record d r)) h = cc
+some_outgoing n (Some (holds_mark m)) h = cc
 some_outgoing n (Some (holds_outgoing e)) h = refl
 
 -- where cells are apart, each row is found under its key
@@ -84,9 +84,9 @@ pub found_outgoing : (os : Cells) (e : EntryValue) → (rows_of os).outgoing_at 
 found_outgoing os e h = at (look os (by_name e.name)) (look_of os (by_name e.name)) h
   where
     at : (o : Option RowValue) → OfKey (by_name e.name) o → option_map (λ x. x.row) (outgoing_part o) ≡ Some e.row → o ≡ Some (holds_outgoing e)
-    at None k h = let z : ◌≡◌ {A = ℕ} 0 1 = cc in absurd (omega arith)
-    at (Some (holds_record c r)) k h = let z : ◌≡◌ {A = ℕ} 0 1 = cc in absurd (omega arith)
-    at (Some (holds_mark m)) k h = let z : ◌≡◌ {A = ℕ} 0 1 = cc in absurd (omega arith)
+    at None k h = cc
+    at (Some (holds_record c r)) k h = cc
+    at (Some (holds_mark m)) k h = cc
     at (Some (holds_outgoing x)) k h =
         let n : x.name ≡ e.name = cc in
         let w : x.row ≡ e.row = cc in

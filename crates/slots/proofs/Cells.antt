@@ -115,7 +115,7 @@ set_apart (o ∷ os) (suc i) n k a e h =
 free_taken : (os : Cells) (i : ℕ) (v : RowValue) → i < length os → get_or os i None ≡ None → free os ≡ free (set os i (Some v)) + 1
 free_taken [] i v l e = absurd (omega arith)
 free_taken (None ∷ os) zero v l e = refl
-free_taken (Some w ∷ os) zero v l e = absurd (let z : ◌≡◌ {A = ℕ} 0 1 = cc in omega arith)
+free_taken (Some w ∷ os) zero v l e = cc
 free_taken (None ∷ os) (suc i) v l e = let h = free_taken os i v (omega arith) e in omega arith
 free_taken (Some w ∷ os) (suc i) v l e = free_taken os i v (omega arith) e
 

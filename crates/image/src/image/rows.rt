@@ -27,6 +27,7 @@ fn is_on_side(slot: &[u8; SLOT_LEN], side: Side) -> bool
 }
 
 // The earlier of a row and the outgoing row of a slot, where a chain on the side sent it.
+#[tactic(auto, using(crate::proofs::Waits::earlier_is))]
 fn earlier_in(best: Option<Outgoing>, slot: &[u8; SLOT_LEN], side: Side) -> Option<Outgoing>
     ensures { option_map entry_value result ≡ earlier_cell (on side) (option_map entry_value best) (outgoing_part (row_in slot.now)) }
 {

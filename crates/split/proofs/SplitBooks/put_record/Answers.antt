@@ -4,20 +4,14 @@ use Rattle.books.specs.Books.{put_record}
 use Rattle.split.proofs.Changes.{tried_first, tried_second}
 use Rattle.split.proofs.SplitBooks.put_record.Goals as goal
 
-pub returns-then-first_is_even : goal.returns-then-first_is_even
-returns-then-first_is_even g c =
+pub returns-then-first_is_even-clause-change : goal.returns-then-first_is_even-clause-change
+returns-then-first_is_even-clause-change g c =
     let s = c.args.self.now in
     let call = c.put_record in
-    record {
-      change = tried_first (put_record (record_key c.args.row) (record_value c.args.row)) c.put_record.result (g.P.Books.meaning s.first) (g.P.Books.meaning call.new.self) (g.Q.Books.meaning s.second) (sym c.first_is_even.ensures ∙ c.if-first_is_even.true) call.ensures.change;
-      rest = λ i. (call.ensures.rest i, g.Q.Books.outside s.second);
-    }
+    tried_first (put_record (record_key c.args.row) (record_value c.args.row)) c.put_record.result (g.P.Books.meaning s.first) (g.P.Books.meaning call.new.self) (g.Q.Books.meaning s.second) (sym c.first_is_even.ensures ∙ c.if-first_is_even.true) call.ensures.change
 
-pub returns-else-first_is_even : goal.returns-else-first_is_even
-returns-else-first_is_even g c =
+pub returns-else-first_is_even-clause-change : goal.returns-else-first_is_even-clause-change
+returns-else-first_is_even-clause-change g c =
     let s = c.args.self.now in
     let call = c.put_record-else-first_is_even in
-    record {
-      change = tried_second (put_record (record_key c.args.row) (record_value c.args.row)) c.put_record-else-first_is_even.result (g.P.Books.meaning s.first) (g.Q.Books.meaning s.second) (g.Q.Books.meaning call.new.self) (sym c.first_is_even.ensures ∙ c.if-first_is_even.false) call.ensures.change;
-      rest = λ i. (g.P.Books.outside s.first, call.ensures.rest i);
-    }
+    tried_second (put_record (record_key c.args.row) (record_value c.args.row)) c.put_record-else-first_is_even.result (g.P.Books.meaning s.first) (g.Q.Books.meaning s.second) (g.Q.Books.meaning call.new.self) (sym c.first_is_even.ensures ∙ c.if-first_is_even.false) call.ensures.change

@@ -10,13 +10,9 @@ put-requires c =
     let e = c.encode_mark.ensures in
     encodes (held_mark c.args.row) c.encode_mark.result e.bytes e.fits e.back
 
-pub returns : goal.returns
-returns c =
+pub returns-clause-change : goal.returns-clause-change
+returns-clause-change c =
     let row = c.args.row in
     let e = c.encode_mark.ensures in
-    record {
-      change =
-          mark_put (mark_value row) (cells c.args.self.now.bytes.now) c.put.result (cells c.put.new.self.bytes.now)
-          (c.put.ensures.change.change (held_mark row) (reads (held_mark row) c.encode_mark.result e.bytes e.fits e.back));
-      rest = λ i. (c.put.ensures.change.rest i, c.put.ensures.same_reference i);
-    }
+    mark_put (mark_value row) (cells c.args.self.now.bytes.now) c.put.result (cells c.put.new.self.bytes.now)
+    (c.put.ensures.change.change (held_mark row) (reads (held_mark row) c.encode_mark.result e.bytes e.fits e.back))

@@ -10,13 +10,9 @@ put-requires c =
     let e = c.encode_outgoing.ensures in
     encodes (held_outgoing c.args.row) c.encode_outgoing.result e.bytes e.fits e.back
 
-pub returns : goal.returns
-returns c =
+pub returns-clause-change : goal.returns-clause-change
+returns-clause-change c =
     let row = c.args.row in
     let e = c.encode_outgoing.ensures in
-    record {
-      change =
-          outgoing_put (entry_value row) (cells c.args.self.now.bytes.now) c.put.result (cells c.put.new.self.bytes.now)
-          (c.put.ensures.change.change (held_outgoing row) (reads (held_outgoing row) c.encode_outgoing.result e.bytes e.fits e.back));
-      rest = λ i. (c.put.ensures.change.rest i, c.put.ensures.same_reference i);
-    }
+    outgoing_put (entry_value row) (cells c.args.self.now.bytes.now) c.put.result (cells c.put.new.self.bytes.now)
+    (c.put.ensures.change.change (held_outgoing row) (reads (held_outgoing row) c.encode_outgoing.result e.bytes e.fits e.back))

@@ -1,13 +1,9 @@
-use Rattle.books.specs.Listed.{lists}
-use Rattle.tables.specs.Held.{held, room, past}
+use Rattle.tables.specs.Held.{held, room}
 use Rattle.tables.proofs.Tried.{outgoing_tried}
 use Rattle.tables.proofs.tables.methods.TablesBooks.put_outgoing.Goals as goal
 
-pub returns : goal.returns
-returns c =
+pub returns-clause-change : goal.returns-clause-change
+returns-clause-change c =
     let t = c.args.self.now in
     let n = c.put.new.self in
-    record {
-      change = outgoing_tried (held t.records) (held t.marks) (held t.outgoing) (room t.records) (room t.marks) (room t.outgoing) c.args.row c.put.result (held n) (room n) c.put.ensures.change;
-      rest = λ i. lists (past t.records) (past t.marks) (c.put.ensures.rest i);
-    }
+    outgoing_tried (held t.records) (held t.marks) (held t.outgoing) (room t.records) (room t.marks) (room t.outgoing) c.args.row c.put.result (held n) (room n) c.put.ensures.change
