@@ -6,9 +6,8 @@ ghost use Rattle.format.specs.Bytes.{message_bytes, name_bytes};
 ghost use Rattle.format.specs.Layout.{code_len, digest_len, height_len, key_len, name_len, receive_len, value_len};
 ghost use Rattle.format.specs.Meaning.{digest_value, message_value, name_value};
 ghost use Rattle.format.specs.Numbers.{signed_bytes, to_bytes};
-ghost use Rattle.books.specs.Meaning.{load_value, mark_value, sign_value};
-ghost use Rattle.slots.specs.Bytes.{load_byte, load_bytes, row_bytes, sign_byte, vote_bytes};
-ghost use Rattle.slots.specs.Kinds.{kind_byte};
+ghost use Rattle.books.specs.Meaning.{load_value, mark_value};
+ghost use Rattle.slots.specs.Bytes.{load_bytes, row_bytes, vote_bytes};
 ghost use Rattle.slots.specs.Layout.{max_prefix_len, slot_len, vote_byte_len};
 ghost use Rattle.slots.specs.Meaning.{held_mark, held_outgoing, held_record};
 ghost use Rattle.slots.specs.Prefixes.{mark_key_bytes};
@@ -18,27 +17,9 @@ ghost use Rattle.slots.specs.Written.{Adds, contents};
 use crate::kind::Kind;
 use crate::layout::{SLOT_LEN, VOTE_BYTE_LEN, VOTED};
 use crate::writer::Writer;
-use books::{Load, Mark, Outgoing, Record, Sign};
+use books::{Load, Mark, Outgoing, Record};
 use format::layout::DIGEST_LEN;
 use format::{Digest, value_to_bytes};
-
-pub(crate) fn kind_of_sign(sign: Sign) -> Kind
-    ensures { kind_byte result ≡ sign_byte (sign_value sign) }
-{
-    match sign {
-        Sign::Plus => Kind::Plus,
-        Sign::Minus => Kind::Minus,
-    }
-}
-
-fn kind_of_load(load: Load) -> Kind
-    ensures { kind_byte result ≡ load_byte (load_value load) }
-{
-    match load {
-        Load::Opening { .. } => Kind::Opening,
-        Load::Sent { .. } => Kind::Message,
-    }
-}
 
 // A mark's target and message.
 pub(crate) fn add_mark<const N: usize>(writer: &mut Writer<N>, mark: &Mark)
@@ -107,7 +88,7 @@ pub fn encode_mark(row: &Mark) -> [u8; SLOT_LEN]
     ensures back { RowsReadBack }
 {
     let mut slot = Writer::new();
-    slot.add(&[kind_of_sign(row.sign).into()]);
+    slot.add(&[Kind::from(row.sign).into()]);
     add_mark(&mut slot, row);
     slot.into_bytes()
 }
@@ -120,7 +101,7 @@ pub fn encode_outgoing(row: &Outgoing) -> [u8; SLOT_LEN]
     ensures back { RowsReadBack }
 {
     let mut slot = Writer::new();
-    slot.add(&[kind_of_load(row.load).into()]);
+    slot.add(&[Kind::from(row.load).into()]);
     slot.add(&row.name.to_bytes());
     slot.add(&row.target.to_bytes());
     add_load(&mut slot, row.load);

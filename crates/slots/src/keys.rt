@@ -6,7 +6,7 @@ ghost use Rattle.slots.specs.Prefixes.{key_prefix, prefix_value};
 ghost use Rattle.slots.specs.RoundTrip.{KeyFits};
 ghost use Rattle.slots.specs.Rows.{RowKey, by_identifier, by_mark, by_name};
 
-use crate::encoding::{add_mark, kind_of_sign};
+use crate::encoding::add_mark;
 use crate::kind::Kind;
 use crate::prefix::Prefix;
 use crate::writer::Writer;
@@ -37,7 +37,7 @@ impl SlotKey for Mark {
     ghost keyed = { λ m. by_mark (mark_value m) };
 
     fn prefix(&self) -> Prefix {
-        let kind = kind_of_sign(self.sign);
+        let kind = Kind::from(self.sign);
         let mut key = Writer::new();
         add_mark(&mut key, self);
         Prefix::new(kind, kind, key)
