@@ -117,6 +117,7 @@ pub struct RingRegister;
 fn count(a: i64, b: i64, offset: i64, sent: Option<Sent>) -> Result<Step, RingFault>
     ensures { rule_value ring_fault result ≡ counted a b offset (option_map sent_value sent) }
 {
+    // Two tests: the goals of a signed range's `contains` stay open ("`search` gave up at one of its limits").
     if offset < MIN_OFFSET || offset > MAX_OFFSET {
         return Err(RingFault::OffsetOutside);
     }

@@ -1,5 +1,6 @@
 -- Tests and searches over lists of rows.
-use Rattle.std.proofs.Common.{◌≡◌, ℕ, suc, ◌<◌, Bool, true, ◌⊎◌, List, [], ◌∷◌, length, get_or, sym, refl, subst, inl, inr, arith}
+use Rattle.std.specs.Bool.{MatchBool}
+use Rattle.std.proofs.Common.{false, ◌≡◌, ℕ, suc, ◌<◌, Bool, true, ◌⊎◌, List, [], ◌∷◌, length, get_or, sym, refl, subst, inl, inr, arith}
 use Rattle.std.proofs.lemmas.Bool.{false≢true, or_cases, or_left, or_right}
 use Rattle.books.specs.Lists.{any}
 
@@ -7,6 +8,11 @@ use Rattle.books.specs.Lists.{any}
 pub split : {A B C : Type 0} → A ⊎ B → (A → C) → (B → C) → C
 split (inl a) f g = f a
 split (inr b) f g = g b
+
+-- a fact for each answer from one for each
+pub either : (r : Bool) {A B C D : Type 0} → (A → C) → (B → D) → MatchBool r A B → MatchBool r C D
+either true f g h = f h
+either false f g h = g h
 
 -- a row of a list
 abbrev pub In : {R : Type 0} → R → List R → Type 0

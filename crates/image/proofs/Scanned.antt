@@ -27,10 +27,6 @@ scanned p test f bs h (Some i) e = (e.within, ap test (cell_at bs i e.within) �
 
 -- ---- the first that passes a test
 module _ {X : Type 0} (test : X → Bool) where
-  pub any_is : (xs : List X) → list_any test xs ≡ any test xs
-  any_is [] = refl
-  any_is (x ∷ xs) = ap (λ t. test x || t) (any_is xs)
-
   none_before : (xs : List X) → any test (take (position_or_len test xs) xs) ≡ false
   none_before [] = refl
   none_before (x ∷ xs) = at (test x) refl (none_before xs)

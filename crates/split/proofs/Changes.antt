@@ -9,7 +9,7 @@ use Rattle.books.specs.Same.{same_mark}
 use Rattle.books.specs.Counts.{Counts, none, Kind, a_record, a_mark, an_outgoing, more}
 use Rattle.books.specs.Books.{BooksValue, Rows, Fits, Operation, put_record, put_mark, put_outgoing, remove_record, remove_mark, remove_outgoing, kind, chain_of, puts, present, updated, with_records, with_marks, with_outgoing, apply, Takes, Gives, Places, Step, Tried}
 use Rattle.books.specs.SameLemmas.{mark_decides}
-use Rattle.books.proofs.Lists.{split}
+use Rattle.books.proofs.Lists.{either, split}
 use Rattle.split.specs.Joined.{joined}
 
 -- the first's where a test chooses the chain, and else the second's
@@ -135,10 +135,6 @@ step_second o m n n' e t = record {
     away = not_from_false _ e
 
 -- ---- puts, made or refused
-either : (r : Bool) {A B C D : Type 0} → (A → C) → (B → D) → MatchBool r A B → MatchBool r C D
-either true f g h = f h
-either false f g h = g h
-
 pub tried_first : (o : Operation) (r : Bool) (m m' n : BooksValue) → first_is_even (chain_of o) ≡ true → Tried m o r m' → Tried (joined m n) o r (joined m' n)
 tried_first o r m m' n e t = record {
   answer = t.answer ∙ (λ i. sym (present_first first_is_even o m.rows n.rows e) i || cond (sym e i) (m.fits (chain_of o) (more (kind o) 1 none)) (n.fits (chain_of o) (more (kind o) 1 none)));

@@ -11,6 +11,7 @@ use Rattle.books.specs.Listed.{Lists, lists, rows_of, listed}
 use Rattle.books.specs.declared.rows.Record.{Record}
 use Rattle.books.specs.declared.rows.Mark.{Mark}
 use Rattle.books.specs.declared.rows.Outgoing.{Outgoing}
+use Rattle.books.proofs.Lists.{either}
 use Rattle.books.proofs.Listed.{records_changed, marks_changed, outgoing_changed, some_record_is, some_outgoing_is}
 use Rattle.tables.specs.Dense.{Put, Removed}
 use Rattle.tables.specs.Within.{within}
@@ -39,10 +40,6 @@ module _ (o : Operation) (l l' : Lists) (free free' : Counts) where
       (subst (λ t. Places t (present (rows_of l) o) (kind o) (chain_of o) (within free) (within free')) (sym p) (remove_places (present (rows_of l) o) (kind o) (chain_of o) free free' f))
 
 -- what is promised where a row goes in, and where it does not
-either : (r : Bool) {A B C D : Type 0} → (A → C) → (B → D) → MatchBool r A B → MatchBool r C D
-either true f g h = f h
-either false f g h = g h
-
 module _ (rs : List Record) (ms : List Mark) (os : List Outgoing) (x y z : ℕ) where
   pub record_tried : (row : Record) (r : Bool) (rs' : List Record) (x' : ℕ) → Put record_key same_identifier rs x row r rs' x'
       → Tried (listed (lists rs ms os) (within (counts x y z))) (put_record (record_key row) (record_value row)) r (listed (lists rs' ms os) (within (counts x' y z)))
