@@ -1,5 +1,5 @@
 -- A change of one worker's books is that change of the two.
-use Rattle.std.proofs.Common.{◌≡◌, ◌≤◌, Bool, true, false, cond, not, ◌||◌, Some, None, Decides, MatchBool, sym, refl, ap, ◌∙◌, subst, add-zero, arith}
+use Rattle.std.proofs.Common.{◌≡◌, ◌≤◌, Bool, true, false, cond, not, ◌||◌, Some, None, Decides, sym, refl, ap, ◌∙◌, subst, add-zero, arith}
 use mathlib.Core.Path.{fun_ext}
 use Rattle.std.proofs.lemmas.Bool.{cases_Bool, not_from_false}
 use Rattle.format.specs.Values.{IdentifierValue}
