@@ -18,7 +18,7 @@ pub struct Step {
     pub sent: Option<Sent>,
 }
 
-/// The application's own number of a refusal, from 1 to 255.
+/// The application's own number of a refusal, from 1 to 255. A number, since a call's answer carries it whole.
 #[derive(Clone, Copy, PartialEq, Eq, Debug)]
 pub struct ApplicationFault {
     pub number: u8,

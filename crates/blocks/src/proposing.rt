@@ -134,6 +134,7 @@ fn propose_request<A: Application, B: Books, S: Seals>(
 /// the block's digest. Refusals: 21 for the committee, 1 to 3 for the frame and its block in it, 7 for no
 /// record or no owner, 8 for the owner's seal, 9 to 11 for its height and previous digest, 12 where another digest is voted,
 /// 13 to 17 for a command, 18 where minus marks of the chain would remain.
+// The books change, and the seals and members do not, so they are not one struct.
 pub fn propose<A: Application, B: Books, S: Seals>(
     books: &mut B,
     seals: &S,

@@ -19,7 +19,8 @@ pub trait Books {
 
     ghost laws: { (s : Self) → Laws (meaning s) };
 
-    // The memory past the limits of the books, which no change touches.
+    // The memory past the limits of the books, which no change touches. That it stays relates what is before a change to what
+    // is after it: a clause of each change, and no invariant of a type.
     ghost Outside: { Type 0 };
 
     ghost outside: { Self → Outside };

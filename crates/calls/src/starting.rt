@@ -61,6 +61,7 @@ fn put_roots<A: Application, B: Books>(books: &mut B, roots: &[Key])
 /// Starts books that hold no row with the records of the roots: chain [0] with the first key as its owner's, [1] with the
 /// second, and so on. Refusals: 21 for the committee, 22 for the roots, 23 where the books hold a row, 19 where the chain of
 /// some root does not fit as many records as there are roots.
+// The books change and the members do not, so they are not one struct.
 pub fn start<A: Application, B: Books>(
     books: &mut B,
     members: &[Member],

@@ -16,6 +16,7 @@ struct Content<'a> {
     seals: usize,
 }
 
+// A request and a certificate have nothing in common but the block, so each is read by its own function.
 fn of_request<'a, S: Seals>(frame: &'a [u8]) -> Result<Content<'a>, ReadFault> {
     let request = read_request::<S>(frame)?;
     Ok(Content {

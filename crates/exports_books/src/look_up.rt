@@ -21,7 +21,7 @@ fn place_after(rows: u16, stride: u16, place: u16) -> u16
     ((place as u32 + stride as u32) % rows as u32) as u16
 }
 
-/// The sum of the numbers found.
+/// The sum of the numbers found. The place goes on in strides, so it is counted here.
 pub(crate) fn sum_found<K: LookedUp, B: Books>(
     books: &B,
     rows: u16,

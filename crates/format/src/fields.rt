@@ -7,7 +7,7 @@ ghost use Rattle.format.specs.Numbers.{from_bytes, signed_bytes, signed_number, 
 use crate::layout::{HEIGHT_LEN, KEY_LEN, VALUE_LEN};
 use std::fmt;
 
-/// The key of an owner or a member; 0 stands for none.
+/// The key of an owner or a member; 0 stands for none, as in the bytes of rows and commands.
 #[derive(Clone, Copy, PartialEq, Eq, PartialOrd, Ord, Debug)]
 pub struct Key(pub u32);
 

@@ -7,7 +7,7 @@ use crate::layout::{MAX_DEPTH, Number};
 
 pub mod methods;
 
-/// One to four numbers. The first `depth` of `numbers` are used, and the others are zero.
+/// One to four numbers. The first `depth` of `numbers` are used, and the others are zero; nothing is allocated.
 /// The first differing number orders identifiers, and a prefix comes first: where only zeros differ in use, the depth tells.
 #[derive(Clone, Copy, PartialEq, Eq, PartialOrd, Ord, Debug)]
 pub struct Identifier {

@@ -7,7 +7,8 @@ ghost use Rattle.format.specs.Writing.{Wrote};
 
 use crate::layout::Number;
 
-// Writes `bytes` from the place `at` on, and answers the place behind them.
+// Writes `bytes` from the place `at` on, and answers the place behind them. Not shared with other crates: a public function
+// has no precondition.
 pub(crate) fn write_at(buffer: &mut [u8], at: usize, bytes: &[u8]) -> usize
     requires { at + length bytes.now ≤ length buffer.old }
     ensures { Wrote buffer.old at bytes.now buffer.new result }

@@ -32,7 +32,7 @@ static K: [[u32; BLOCK_WORDS]; ROUND_GROUPS] = [
     ],
 ];
 
-// Writes `part` into a block from the place `at` on.
+// Writes `part` into a block from the place `at` on. Not shared with other crates: a public function has no precondition.
 pub(crate) fn put(block: &mut [u8; BLOCK_LEN], at: usize, part: &[u8])
     requires { at + length part.now ≤ block_len }
     ensures { block.new ≡ written block.old at part.now }

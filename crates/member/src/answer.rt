@@ -11,7 +11,7 @@ use format::{Block, Command, ComposeFault, Digest, Identifier, Refusal, compose}
 use hex_text::Hex;
 use seals::{Seals, Secret, Tags};
 
-/// The length of a block in a buffer, and its digest.
+/// The length of a block in its caller's buffer, and its digest.
 #[derive(Clone, Copy)]
 pub struct Encoded {
     pub len: usize,

@@ -100,6 +100,7 @@ fn show_votes(rt: &HostRuntime, certificate: &Certificate) -> anyhow::Result<()>
     Ok(())
 }
 
+// A request and a certificate have nothing in common but the block, so each is shown by its own function.
 fn show_request<S: Seals>(rt: &HostRuntime, frame: &[u8]) -> anyhow::Result<()> {
     match read_request::<S>(frame) {
         Ok(request) => {

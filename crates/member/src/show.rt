@@ -19,7 +19,7 @@ impl fmt::Display for Offset {
     }
 }
 
-/// A command in words.
+/// A command in words. A type of another crate is not given a `Display` here, but in a struct.
 #[derive(Drop)]
 pub struct CommandWords(pub Command);
 

@@ -127,7 +127,7 @@ impl<'a> CommandPart<'a> {
     }
 }
 
-// How many bytes the operands behind a command byte have.
+// How many bytes the operands behind a command byte have. Of a command by its values, `format` knows it.
 fn operands_len(byte: u8) -> usize
     ensures { result ≡ operands_len_of byte }
 {
