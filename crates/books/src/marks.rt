@@ -2,8 +2,8 @@
 ghost use Rattle.std.specs.Prelude.{◌≡◌};
 ghost use Rattle.format.specs.Meaning.{identifier_value, message_value};
 ghost use Rattle.books.specs.Lists.{any};
-ghost use Rattle.books.specs.Meaning.{mark_value};
-ghost use Rattle.books.specs.Same.{minus_of};
+ghost use Rattle.books.specs.Meaning.{mark_value, sign_value};
+ghost use Rattle.books.specs.Same.{minus_of, same_mark, same_sign};
 ghost use Rattle.books.specs.Values.{marking, minus, plus};
 
 use crate::rows::{Mark, Sign};
@@ -12,7 +12,9 @@ use format::{Identifier, Message};
 impl Mark {
     /// The mark of a message that arrived and waits.
     pub fn plus(target: Identifier, message: Message) -> Mark
-        ensures { mark_value result ≡ marking (identifier_value target) (message_value message) plus }
+        ensures value { mark_value result ≡ marking (identifier_value target) (message_value message) plus }
+        ensures equality { (x y : Mark) → ⟦<Mark as PartialEq>⟧.eq x y ≡ same_mark (mark_value x) (mark_value y) }
+        ensures sign_equality { (x y : Sign) → ⟦<Sign as PartialEq>⟧.eq x y ≡ same_sign (sign_value x) (sign_value y) }
     {
         Mark {
             target,

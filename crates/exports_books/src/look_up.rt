@@ -18,7 +18,7 @@ fn place_after(rows: u16, stride: u16, place: u16) -> u16
     requires { 0 < rows }
     ensures { result ≡ place_after rows stride place }
 {
-    ((place as u32 + stride as u32) % rows as u32) as u16
+    ((u32::from(place) + u32::from(stride)) % u32::from(rows)) as u16
 }
 
 /// The sum of the numbers found. The place goes on in strides, so it is counted here.
@@ -34,7 +34,7 @@ pub(crate) fn sum_found<K: LookedUp, B: Books>(
     let mut place = 0;
     let mut sum: u64 = 0;
     for _turn in 0..lookups {
-        sum += K::find(books, place) as u64;
+        sum += u64::from(K::find(books, place));
         place = place_after(rows, stride, place);
     }
     sum

@@ -56,7 +56,7 @@ fn opening(place: u16) -> Outgoing
         name: name(place),
         target: Identifier::root(place),
         load: Load::Opening {
-            key: Key(place as u32),
+            key: Key(u32::from(place)),
         },
     }
 }
@@ -72,7 +72,7 @@ impl LookedUp for Records {
 
     fn find<B: Books>(books: &B, place: u16) -> u32 {
         match books.record(&Identifier::root(place)) {
-            Some(row) => row.next.0 as u32,
+            Some(row) => u32::from(row.next.0),
             None => 0,
         }
     }
