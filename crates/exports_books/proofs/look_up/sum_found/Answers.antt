@@ -8,8 +8,8 @@ loop-turn-preserved g c =
     let l = c.loop-turn in
     let a = c.args in
     let found = g.K.LookedUp.number (g.B.Books.meaning a.books.now).rows in (
-      omega (arith, l.invariant.0, c.find.type_inv),
-      (λ i. (l.sum + c.find.ensures i) + sum_from found a.rows a.stride (c.place_after-place.ensures i) (a.lookups - (l._turn + 1)))
+      omega (arith, l.invariant.0, c.find.type_inv, c.from-sum.ensures),
+      (λ i. (l.sum + (c.from-sum.ensures ∙ c.find.ensures) i) + sum_from found a.rows a.stride (c.place_after-place.ensures i) (a.lookups - (l._turn + 1)))
           ∙ one_more_found found a.rows a.stride l.place l._turn a.lookups l.sum (sum_from found a.rows a.stride 0 a.lookups) c.loop-turn-test.true l.invariant.1,
     )
 
