@@ -10,13 +10,10 @@ use image::{MAX_SLOTS, scan};
 use slots::SlotKey;
 
 /// The place of the first slot with the record of a chain of one number, or `MAX_SLOTS` where
-/// there is none.
+/// there is none, since C has no `Option`.
 #[unsafe(no_mangle)]
 pub extern "C" fn limedistaff_image_find(memory: &[u8], number: u16) -> usize
     ensures { Scan (key_prefix (by_identifier (number ∷ []))) memory.now (place result) }
 {
-    match scan(memory, &Identifier::root(number).prefix()) {
-        Some(i) => i,
-        None => MAX_SLOTS,
-    }
+    scan(memory, &Identifier::root(number).prefix()).unwrap_or(MAX_SLOTS)
 }

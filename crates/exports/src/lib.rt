@@ -1,6 +1,6 @@
 //! The functions of the libraries for callers in C: for benchmarks and for tests from outside.
-//! A slice is passed as a pointer and then a length. A function that is handed a buffer answers whether it had room: C has no
-//! `Option`.
+//! A slice is passed as a pointer and then a length. A function that is handed a buffer answers whether it had room, as a
+//! `bool`: C has no `Result`.
 #![tactic(auto)]
 
 ghost use Rattle.hash.specs.Sha256.{sha256_of};

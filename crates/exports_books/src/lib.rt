@@ -1,5 +1,5 @@
 //! Lookups in full books, for benchmarks from outside. Each function fills new books, looks rows up in them, and answers the
-//! sum of the numbers found.
+//! sum of the numbers found. Callers in C need a function with a name of its own for each kind of row.
 #![tactic(auto)]
 
 ghost use Rattle.tables.specs.Limits.{max_rows};

@@ -71,10 +71,9 @@ impl LookedUp for Records {
     }
 
     fn find<B: Books>(books: &B, place: u16) -> u32 {
-        match books.record(&Identifier::root(place)) {
-            Some(row) => u32::from(row.next.0),
-            None => 0,
-        }
+        books
+            .record(&Identifier::root(place))
+            .map_or(0, |row| u32::from(row.next.0))
     }
 }
 
@@ -88,12 +87,11 @@ impl LookedUp for Openings {
     }
 
     fn find<B: Books>(books: &B, place: u16) -> u32 {
-        match books.outgoing(&name(place)) {
-            Some(row) => match row.load {
+        books
+            .outgoing(&name(place))
+            .map_or(0, |row| match row.load {
                 Load::Opening { key } => key.0,
                 Load::Sent { .. } => 0,
-            },
-            None => 0,
-        }
+            })
     }
 }

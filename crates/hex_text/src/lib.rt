@@ -5,7 +5,7 @@ ghost use Rattle.std.specs.Prelude.{◌≡◌, ◌<◌, IfOk};
 ghost use Rattle.std.specs.Char.{digit_value};
 ghost use Rattle.hex_text.specs.Hex.{from_hex};
 
-use std::alloc::{AllocError, AllocFailed, Global};
+use std::alloc::{AllocError, Global};
 use std::fmt;
 use thiserror::Error;
 
@@ -17,19 +17,7 @@ pub enum HexError {
     #[error("the count of digits is odd")]
     Odd,
     #[error("out of memory")]
-    NoMemory,
-}
-
-impl From<AllocError> for HexError {
-    fn from(_error: AllocError) -> HexError {
-        HexError::NoMemory
-    }
-}
-
-impl<T: Drop> From<AllocFailed<T>> for HexError {
-    fn from(_refused: AllocFailed<T>) -> HexError {
-        HexError::NoMemory
-    }
+    NoMemory(#[from(alloc)] AllocError),
 }
 
 fn digit(c: u8) -> Result<u8, HexError>

@@ -1,9 +1,18 @@
 //! What books hold, line by line.
 use books::{Books, Mark, NewRows, Side};
 use format::{Identifier, Name};
+use std::fmt::Display;
 
 // The greatest count that is asked for.
 const MAX_COUNT: usize = 1_024;
+
+// A row on a line, if one was found.
+fn show_found<R: Copy + Display>(rt: &HostRuntime, found: Option<R>) -> anyhow::Result<()> {
+    if let Some(row) = found {
+        println!(rt; "{row}")?;
+    }
+    Ok(())
+}
 
 /// The record of a chain, if there is one.
 pub fn show_record<B: Books>(
@@ -11,26 +20,17 @@ pub fn show_record<B: Books>(
     books: &B,
     chain: &Identifier,
 ) -> anyhow::Result<()> {
-    if let Some(row) = books.record(chain) {
-        println!(rt; "{}", row)?;
-    }
-    Ok(())
+    show_found(rt, books.record(chain))
 }
 
 /// A mark, if it is there.
 pub fn show_mark<B: Books>(rt: &HostRuntime, books: &B, mark: &Mark) -> anyhow::Result<()> {
-    if books.has_mark(mark) {
-        println!(rt; "{}", mark)?;
-    }
-    Ok(())
+    show_found(rt, books.has_mark(mark).then(|| *mark))
 }
 
 /// The outgoing row of a name, if there is one.
 pub fn show_outgoing<B: Books>(rt: &HostRuntime, books: &B, name: &Name) -> anyhow::Result<()> {
-    if let Some(row) = books.outgoing(name) {
-        println!(rt; "{}", row)?;
-    }
-    Ok(())
+    show_found(rt, books.outgoing(name))
 }
 
 /// The outgoing row that waits first.
