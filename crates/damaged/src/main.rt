@@ -9,6 +9,46 @@ use reading::{
 };
 use seals::{CheckedList, Seals, Tags};
 
+// What a frame is. Every word but `request` stands for a certificate.
+#[derive(Clone, Copy)]
+enum Kind {
+    Request,
+    Certificate,
+}
+
+impl Kind {
+    fn of(word: &str) -> Kind {
+        match word {
+            "request" => Kind::Request,
+            _ => Kind::Certificate,
+        }
+    }
+}
+
+// The scheme of a frame's seals. Every word but `list` stands for tags.
+#[derive(Clone, Copy)]
+enum Scheme {
+    List,
+    Tag,
+}
+
+impl Scheme {
+    fn of(word: &str) -> Scheme {
+        match word {
+            "list" => Scheme::List,
+            _ => Scheme::Tag,
+        }
+    }
+}
+
+// A frame, and how it is to be read.
+#[derive(Clone, Copy)]
+struct Framed<'a> {
+    kind: Kind,
+    scheme: Scheme,
+    frame: &'a [u8],
+}
+
 // The block of a frame, and how many seals the frame has.
 #[derive(Clone, Copy)]
 struct Content<'a> {
@@ -36,17 +76,26 @@ fn of_certificate<'a, S: Seals>(frame: &'a [u8]) -> Result<Content<'a>, ReadFaul
     })
 }
 
-fn read_by<'a, S: Seals>(kind: &str, frame: &'a [u8]) -> Result<Content<'a>, ReadFault> {
-    match kind {
-        "request" => of_request::<S>(frame),
-        _ => of_certificate::<S>(frame),
+impl<'a> Framed<'a> {
+    fn read_by<S: Seals>(self) -> Result<Content<'a>, ReadFault> {
+        match self.kind {
+            Kind::Request => of_request::<S>(self.frame),
+            Kind::Certificate => of_certificate::<S>(self.frame),
+        }
     }
-}
 
-fn read_frame<'a>(kind: &str, scheme: &str, frame: &'a [u8]) -> Result<Content<'a>, ReadFault> {
-    match scheme {
-        "list" => read_by::<CheckedList>(kind, frame),
-        _ => read_by::<Tags>(kind, frame),
+    // The scheme chooses a type.
+    fn read(self) -> Result<Content<'a>, ReadFault> {
+        match self.scheme {
+            Scheme::List => self.read_by::<CheckedList>(),
+            Scheme::Tag => self.read_by::<Tags>(),
+        }
+    }
+
+    // What is in a frame, and the head of its block.
+    fn read_whole(self) -> Result<(Content<'a>, Head), ReadFault> {
+        let content = self.read()?;
+        Ok((content, read_block(content.block)?))
     }
 }
 
@@ -73,18 +122,8 @@ fn show_content(rt: &HostRuntime, content: Content, head: &Head) -> anyhow::Resu
     Ok(())
 }
 
-// What is in a frame, and the head of its block.
-fn read_whole<'a>(
-    kind: &str,
-    scheme: &str,
-    frame: &'a [u8],
-) -> Result<(Content<'a>, Head), ReadFault> {
-    let content = read_frame(kind, scheme, frame)?;
-    Ok((content, read_block(content.block)?))
-}
-
-fn show_frame(rt: &HostRuntime, kind: &str, scheme: &str, frame: &[u8]) -> anyhow::Result<()> {
-    match read_whole(kind, scheme, frame) {
+fn show_frame(rt: &HostRuntime, framed: Framed) -> anyhow::Result<()> {
+    match framed.read_whole() {
         Ok((content, head)) => show_content(rt, content, &head),
         Err(fault) => {
             let refusal = Refusal::from(fault);
@@ -106,7 +145,12 @@ fn run(rt: &HostRuntime) -> anyhow::Result<()> {
         let frame = hex_text::bytes_of(rt.alloc(), text).map_err(|_| anyhow!(
             "a frame is not in hexadecimal"
         ))?;
-        show_frame(rt, kind, scheme, frame.as_slice())?;
+        let framed = Framed {
+            kind: Kind::of(kind),
+            scheme: Scheme::of(scheme),
+            frame: frame.as_slice(),
+        };
+        show_frame(rt, framed)?;
     }
     Ok(())
 }
