@@ -4,7 +4,9 @@ use format::layout::MAX_DEPTH;
 use format::{Command, Digest, Height, Identifier, Key, Message, Name};
 use hex::FromHex;
 use seals::SECRET_LEN;
+use std::num::ParseIntError;
 use std::slice::Iter;
+use std::str::FromStr;
 use thiserror::Error;
 
 /// Why a text is not understood.
@@ -81,19 +83,15 @@ pub(crate) fn key(text: &str) -> Result<Key, ParseFault> {
     lower_hex(text).map(Key::from_bytes).ok_or(ParseFault::Key)
 }
 
-fn byte(text: &str) -> Result<u8, ParseFault> {
-    text.parse().map_err(|_| ParseFault::Number)
-}
-
-/// A signed number.
-pub(crate) fn signed(text: &str) -> Result<i64, ParseFault> {
+/// A number within the range of its type.
+pub(crate) fn number<T: FromStr<Err = ParseIntError>>(text: &str) -> Result<T, ParseFault> {
     text.parse().map_err(|_| ParseFault::Number)
 }
 
 /// A step of the segment stock, as `cast:5`.
 pub(crate) fn stock_step(text: &str) -> Result<Asked, ParseFault> {
-    let (word, number) = text.split_once(':').ok_or(ParseFault::Step)?;
-    let value = signed(number)?;
+    let (word, value) = text.split_once(':').ok_or(ParseFault::Step)?;
+    let value = number(value)?;
     let operation = |operation: StockOperation| Asked::Operation {
         code: operation.into(),
         value,
@@ -129,8 +127,8 @@ fn change(operands: &mut Iter<&str>) -> Result<Command, ParseFault> {
 }
 
 fn execute(operands: &mut Iter<&str>) -> Result<Command, ParseFault> {
-    let code = byte(next(operands)?)?;
-    let argument = signed(next(operands)?)?;
+    let code = number(next(operands)?)?;
+    let argument = number(next(operands)?)?;
     let target = identifier(next(operands)?)?;
     Ok(Command::Execute {
         code,
@@ -142,7 +140,7 @@ fn execute(operands: &mut Iter<&str>) -> Result<Command, ParseFault> {
 fn name(operands: &mut Iter<&str>) -> Result<Name, ParseFault> {
     let sender = identifier(next(operands)?)?;
     let height = height(next(operands)?)?;
-    let index = byte(next(operands)?)?;
+    let index = number(next(operands)?)?;
     Ok(Name {
         height,
         sender,
@@ -152,8 +150,8 @@ fn name(operands: &mut Iter<&str>) -> Result<Name, ParseFault> {
 
 fn receive(operands: &mut Iter<&str>) -> Result<Command, ParseFault> {
     let name = name(operands)?;
-    let code = byte(next(operands)?)?;
-    let value = signed(next(operands)?)?;
+    let code = number(next(operands)?)?;
+    let value = number(next(operands)?)?;
     let message = Message { name, code, value };
     Ok(Command::Receive { message })
 }

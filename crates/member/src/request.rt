@@ -71,7 +71,7 @@ fn head(heap: Global, chain: &str, height: &str, previous: &str) -> Result<Draft
 // An execute for each offset.
 fn rings(mut draft: Draft, target: Identifier, offsets: &[&str]) -> Result<Request, RequestFault> {
     for offset in offsets {
-        let argument = parse::signed(offset)?;
+        let argument = parse::number(offset)?;
         draft.commands.push(Command::Execute {
             code: RingOperation::RecordAndSend.into(),
             argument,
@@ -100,7 +100,7 @@ fn offsets(heap: Global, words: &[&str]) -> Result<Vec<Asked>, RequestFault> {
     for word in words {
         steps.push(Asked::Operation {
             code: RingOperation::RecordOnly.into(),
-            value: parse::signed(word)?,
+            value: parse::number(word)?,
         })?;
     }
     Ok(steps)
