@@ -4,10 +4,10 @@ ghost use Rattle.format.specs.Meaning.{block_value};
 ghost use Rattle.member.specs.Encoding.{Encodes};
 
 use crate::request::{Draft, Request, RequestFault, read_line};
-use crate::show::Offset;
+use crate::show::{Offset, show_fault};
 use crate::{frames, tally};
 use format::layout::MAX_BLOCK_LEN;
-use format::{Block, Command, ComposeFault, Digest, Identifier, Refusal, compose};
+use format::{Block, Command, ComposeFault, Digest, Identifier, compose};
 use hex_text::Hex;
 use seals::{Seals, Secret, Tags};
 
@@ -42,10 +42,7 @@ fn show_block(rt: &HostRuntime, draft: &Draft) -> anyhow::Result<()> {
             println!(rt; "  block of {len} bytes: {bytes}")?;
             println!(rt; "  digest: {digest}")?;
         }
-        Err(fault) => {
-            let number = Refusal::from(fault).number;
-            println!(rt; "  refused, number {number}: {fault}")?;
-        }
+        Err(fault) => show_fault(rt, fault)?,
     }
     Ok(())
 }

@@ -1,6 +1,5 @@
 //! Showing what is in a frame.
-use crate::show::CommandWords;
-use format::Refusal;
+use crate::show::{CommandWords, show_fault};
 use hex_text::Hex;
 use reading::{
     Certificate, Cursor, Head, MAX_SEALS, Part, ReadFault, Request, read_block, read_certificate,
@@ -38,12 +37,6 @@ pub struct Framed {
     pub kind: Kind,
     pub scheme: Scheme,
     pub frame: Vec<u8>,
-}
-
-fn show_fault(rt: &HostRuntime, fault: ReadFault) -> anyhow::Result<()> {
-    let number = Refusal::from(fault).number;
-    println!(rt; "  refused, number {number}: {fault}")?;
-    Ok(())
 }
 
 fn show_commands(rt: &HostRuntime, mut cursor: Cursor, head: &Head) -> anyhow::Result<()> {
