@@ -1,5 +1,5 @@
 //! Values from text.
-use applications::{Asked, StockMessage, StockOperation};
+use applications::{Asked, RingOperation, StockMessage, StockOperation};
 use format::layout::MAX_DEPTH;
 use format::{Command, Digest, Height, Identifier, Key, Message, Name};
 use hex::FromHex;
@@ -86,6 +86,14 @@ pub(crate) fn key(text: &str) -> Result<Key, ParseFault> {
 /// A number within the range of its type.
 pub(crate) fn number<T: FromStr<Err = ParseIntError>>(text: &str) -> Result<T, ParseFault> {
     text.parse().map_err(|_| ParseFault::Number)
+}
+
+/// A step of the ring register, by the offset of the ring that it records.
+pub(crate) fn ring_step(text: &str) -> Result<Asked, ParseFault> {
+    Ok(Asked::Operation {
+        code: RingOperation::RecordOnly.into(),
+        value: number(text)?,
+    })
 }
 
 /// A step of the segment stock, as `cast:5`.

@@ -94,24 +94,18 @@ fn commands(heap: Global, mut draft: Draft, words: &[&str]) -> Result<Request, R
     Ok(Request::Compose { draft })
 }
 
-// A record of the ring register for each offset.
-fn offsets(heap: Global, words: &[&str]) -> Result<Vec<Asked>, RequestFault> {
-    let mut steps = Vec::new(heap);
-    for word in words {
-        steps.push(Asked::Operation {
-            code: RingOperation::RecordOnly.into(),
-            value: parse::number(word)?,
-        })?;
-    }
-    Ok(steps)
-}
-
-fn stock_steps(heap: Global, words: &[&str]) -> Result<Vec<Asked>, RequestFault> {
-    let mut steps = Vec::new(heap);
-    for word in words {
-        steps.push(parse::stock_step(word)?)?;
-    }
-    Ok(steps)
+// A step from each word.
+fn steps<F: Fn(&str) -> Result<Asked, ParseFault>>(
+    heap: Global,
+    words: &[&str],
+    step: F,
+) -> Result<Vec<Asked>, RequestFault>
+    requires { F.IsAlwaysCallable step }
+{
+    words
+        .iter()
+        .map(|word| -> Result<Asked, RequestFault> { Ok(step(word)?) })
+        .try_collect(heap)
 }
 
 // Bytes in hexadecimal, or the fault where they are not.
@@ -183,10 +177,10 @@ fn by_word(rt: &HostRuntime, first: &str, words: &[&str]) -> Result<Request, Req
         "request" => read_frame(rt, Kind::Request, words),
         "certificate" => read_frame(rt, Kind::Certificate, words),
         "tally" => Ok(Request::TallyRings {
-            steps: offsets(heap, words)?,
+            steps: steps(heap, words, parse::ring_step)?,
         }),
         "stock" => Ok(Request::TallyStock {
-            steps: stock_steps(heap, words)?,
+            steps: steps(heap, words, parse::stock_step)?,
         }),
         "tag" => tag(heap, words),
         _ => Err(ParseFault::Word.into()),
