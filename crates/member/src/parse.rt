@@ -5,8 +5,7 @@ use format::{Command, Digest, Height, Identifier, Key, Message, Name};
 use hex::FromHex;
 use seals::SECRET_LEN;
 use std::num::ParseIntError;
-use std::slice::Iter;
-use std::str::FromStr;
+use std::str::{FromStr, Split};
 use thiserror::Error;
 
 /// Why a text is not understood.
@@ -119,22 +118,22 @@ pub(crate) fn stock_step(text: &str) -> Result<Asked, ParseFault> {
 }
 
 // The next operand.
-fn next<'a>(operands: &mut Iter<'_, &'a str>) -> Result<&'a str, ParseFault> {
-    operands.next().copied().ok_or(ParseFault::Command)
+fn next<'a>(operands: &mut Split<'a, char>) -> Result<&'a str, ParseFault> {
+    operands.next().ok_or(ParseFault::Command)
 }
 
-fn open(operands: &mut Iter<&str>) -> Result<Command, ParseFault> {
+fn open(operands: &mut Split<char>) -> Result<Command, ParseFault> {
     let child = identifier(next(operands)?)?;
     let key = key(next(operands)?)?;
     Ok(Command::Open { child, key })
 }
 
-fn change(operands: &mut Iter<&str>) -> Result<Command, ParseFault> {
+fn change(operands: &mut Split<char>) -> Result<Command, ParseFault> {
     let key = key(next(operands)?)?;
     Ok(Command::Change { key })
 }
 
-fn execute(operands: &mut Iter<&str>) -> Result<Command, ParseFault> {
+fn execute(operands: &mut Split<char>) -> Result<Command, ParseFault> {
     let code = number(next(operands)?)?;
     let argument = number(next(operands)?)?;
     let target = identifier(next(operands)?)?;
@@ -145,7 +144,7 @@ fn execute(operands: &mut Iter<&str>) -> Result<Command, ParseFault> {
     })
 }
 
-fn name(operands: &mut Iter<&str>) -> Result<Name, ParseFault> {
+fn name(operands: &mut Split<char>) -> Result<Name, ParseFault> {
     let sender = identifier(next(operands)?)?;
     let height = height(next(operands)?)?;
     let index = number(next(operands)?)?;
@@ -156,7 +155,7 @@ fn name(operands: &mut Iter<&str>) -> Result<Name, ParseFault> {
     })
 }
 
-fn receive(operands: &mut Iter<&str>) -> Result<Command, ParseFault> {
+fn receive(operands: &mut Split<char>) -> Result<Command, ParseFault> {
     let name = name(operands)?;
     let code = number(next(operands)?)?;
     let value = number(next(operands)?)?;
@@ -164,9 +163,9 @@ fn receive(operands: &mut Iter<&str>) -> Result<Command, ParseFault> {
     Ok(Command::Receive { message })
 }
 
-/// A command, by its word and its operands.
-pub(crate) fn command(parts: &[&str]) -> Result<Command, ParseFault> {
-    let mut operands = parts.iter();
+/// A command, its word and its operands joined by colons.
+pub(crate) fn command(text: &str) -> Result<Command, ParseFault> {
+    let mut operands = text.split(':');
     let command = match next(&mut operands)? {
         "open" => open(&mut operands)?,
         "change" => change(&mut operands)?,

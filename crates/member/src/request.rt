@@ -59,7 +59,8 @@ pub enum RequestFault {
     Memory(#[from(alloc)] AllocError),
 }
 
-fn head(heap: Global, chain: &str, height: &str, previous: &str) -> Result<Draft, ParseFault> {
+// A draft with no commands, from the words for its other values.
+fn head(heap: Global, [chain, height, previous]: &[&str; 3]) -> Result<Draft, ParseFault> {
     Ok(Draft {
         chain: parse::identifier(chain)?,
         height: parse::height(height)?,
@@ -81,15 +82,9 @@ fn rings(mut draft: Draft, target: Identifier, offsets: &[&str]) -> Result<Reque
     Ok(Request::Rings { draft, target })
 }
 
-// A command, its operands joined by colons.
-fn command(heap: Global, word: &str) -> Result<Command, RequestFault> {
-    let parts: Vec<&str> = word.split(':').collect(heap)?;
-    Ok(parse::command(parts.as_slice())?)
-}
-
-fn commands(heap: Global, mut draft: Draft, words: &[&str]) -> Result<Request, RequestFault> {
+fn commands(mut draft: Draft, words: &[&str]) -> Result<Request, RequestFault> {
     for word in words {
-        draft.commands.push(command(heap, word)?)?;
+        draft.commands.push(parse::command(word)?)?;
     }
     Ok(Request::Compose { draft })
 }
@@ -130,18 +125,18 @@ fn frame_bytes(rt: &HostRuntime, word: &str) -> Result<Vec<u8>, ParseFault> {
 }
 
 fn ring_block(heap: Global, words: &[&str]) -> Result<Request, RequestFault> {
-    let [chain, height, previous, target, offsets @ ..] = words else {
+    let Some((values, [target, offsets @ ..])) = words.split_first_chunk() else {
         return Err(ParseFault::Missing.into());
     };
     let target = parse::identifier(target)?;
-    rings(head(heap, chain, height, previous)?, target, offsets)
+    rings(head(heap, values)?, target, offsets)
 }
 
 fn any_block(heap: Global, words: &[&str]) -> Result<Request, RequestFault> {
-    let [chain, height, previous, words @ ..] = words else {
+    let Some((values, words)) = words.split_first_chunk() else {
         return Err(ParseFault::Missing.into());
     };
-    commands(heap, head(heap, chain, height, previous)?, words)
+    commands(head(heap, values)?, words)
 }
 
 fn read_frame(rt: &HostRuntime, kind: Kind, words: &[&str]) -> Result<Request, RequestFault> {
