@@ -1,13 +1,13 @@
 //! Answering a request.
-ghost use Rattle.std.specs.Prelude.{length};
+ghost use Rattle.std.specs.Prelude.{◌≤◌, length, IfOk};
 ghost use Rattle.format.specs.Meaning.{block_value};
 ghost use Rattle.member.specs.Encoding.{Encodes};
 
 use crate::request::{Draft, Request, RequestFault, read_line};
-use crate::show::Offset;
+use crate::show::{Offset, show_fault};
 use crate::{frames, tally};
 use format::layout::MAX_BLOCK_LEN;
-use format::{Block, Command, ComposeFault, Digest, Identifier, Refusal, compose};
+use format::{Block, Command, ComposeFault, Digest, Identifier, compose};
 use hex_text::Hex;
 use seals::{Seals, Secret, Tags};
 
@@ -20,7 +20,8 @@ pub struct Encoded {
 
 // Writes a block at the front of the buffer, and answers its length and digest.
 fn encode(block: &Block, buffer: &mut [u8]) -> Result<Encoded, ComposeFault>
-    ensures { Encodes (block_value block.now) (length buffer.old) result buffer.new }
+    ensures bytes { Encodes (block_value block.now) (length buffer.old) result buffer.new }
+    ensures fits { IfOk result (λ e. e.len ≤ length buffer.new) }
 {
     let len = compose(block, buffer)?;
     let digest = Digest::of(&buffer[0..len]);
@@ -38,14 +39,11 @@ fn show_block(rt: &HostRuntime, draft: &Draft) -> anyhow::Result<()> {
     let mut buffer = [0; MAX_BLOCK_LEN];
     match encode(&block, &mut buffer) {
         Ok(Encoded { len, digest }) => {
-            let bytes = Hex(buffer.get(0..len).unwrap_or(&[]));
+            let bytes = Hex(&buffer[0..len]);
             println!(rt; "  block of {len} bytes: {bytes}")?;
             println!(rt; "  digest: {digest}")?;
         }
-        Err(fault) => {
-            let number = Refusal::from(fault).number;
-            println!(rt; "  refused, number {number}: {fault}")?;
-        }
+        Err(fault) => show_fault(rt, fault)?,
     }
     Ok(())
 }

@@ -1,9 +1,8 @@
 //! Showing what is in a frame.
-use crate::show::CommandWords;
-use format::Refusal;
+use crate::show::{CommandWords, show_fault};
 use hex_text::Hex;
 use reading::{
-    Certificate, Cursor, Head, MAX_SEALS, Part, ReadFault, read_block, read_certificate,
+    Certificate, Cursor, Head, MAX_SEALS, Part, ReadFault, Request, read_block, read_certificate,
     read_request,
 };
 use seals::{CheckedList, Seals, Tags};
@@ -40,12 +39,6 @@ pub struct Framed {
     pub frame: Vec<u8>,
 }
 
-fn show_fault(rt: &HostRuntime, fault: ReadFault) -> anyhow::Result<()> {
-    let number = Refusal::from(fault).number;
-    println!(rt; "  refused, number {number}: {fault}")?;
-    Ok(())
-}
-
 fn show_commands(rt: &HostRuntime, mut cursor: Cursor, head: &Head) -> anyhow::Result<()> {
     for place in 0..head.count {
         let Ok(Some(command)) = cursor.next() else {
@@ -70,19 +63,9 @@ fn show_head(rt: &HostRuntime, head: &Head, at: usize) -> anyhow::Result<()> {
     Ok(())
 }
 
-// The block of a frame; false where it is refused.
-fn show_block(rt: &HostRuntime, block: Part) -> anyhow::Result<bool> {
-    match read_block(block) {
-        Ok(head) => {
-            show_head(rt, &head, block.at)?;
-            show_commands(rt, Cursor::new(block, head.count), &head)?;
-            Ok(true)
-        }
-        Err(fault) => {
-            show_fault(rt, fault)?;
-            Ok(false)
-        }
-    }
+fn show_block(rt: &HostRuntime, block: Part, head: &Head) -> anyhow::Result<()> {
+    show_head(rt, head, block.at)?;
+    show_commands(rt, Cursor::new(block, head.count), head)
 }
 
 fn show_votes(rt: &HostRuntime, certificate: &Certificate) -> anyhow::Result<()> {
@@ -100,14 +83,24 @@ fn show_votes(rt: &HostRuntime, certificate: &Certificate) -> anyhow::Result<()>
     Ok(())
 }
 
+// A request, and the head of its block.
+fn request_and_head<S: Seals>(frame: &[u8]) -> Result<(Request<'_>, Head), ReadFault> {
+    let request = read_request::<S>(frame)?;
+    Ok((request, read_block(request.block)?))
+}
+
+// A certificate, and the head of its block.
+fn certificate_and_head<S: Seals>(frame: &[u8]) -> Result<(Certificate<'_>, Head), ReadFault> {
+    let certificate = read_certificate::<S>(frame)?;
+    Ok((certificate, read_block(certificate.block)?))
+}
+
 // A request and a certificate have nothing in common but the block, so each is shown by its own function.
 fn show_request<S: Seals>(rt: &HostRuntime, frame: &[u8]) -> anyhow::Result<()> {
-    match read_request::<S>(frame) {
-        Ok(request) => {
-            if show_block(rt, request.block)? {
-                let seal = request.seal;
-                println!(rt; "  the owner's seal, at {}: {}", seal.at, Hex(seal.bytes))?;
-            }
+    match request_and_head::<S>(frame) {
+        Ok((Request { block, seal }, head)) => {
+            show_block(rt, block, &head)?;
+            println!(rt; "  the owner's seal, at {}: {}", seal.at, Hex(seal.bytes))?;
             Ok(())
         }
         Err(fault) => show_fault(rt, fault),
@@ -115,12 +108,10 @@ fn show_request<S: Seals>(rt: &HostRuntime, frame: &[u8]) -> anyhow::Result<()> 
 }
 
 fn show_certificate<S: Seals>(rt: &HostRuntime, frame: &[u8]) -> anyhow::Result<()> {
-    match read_certificate::<S>(frame) {
-        Ok(certificate) => {
-            if show_block(rt, certificate.block)? {
-                show_votes(rt, &certificate)?;
-            }
-            Ok(())
+    match certificate_and_head::<S>(frame) {
+        Ok((certificate, head)) => {
+            show_block(rt, certificate.block, &head)?;
+            show_votes(rt, &certificate)
         }
         Err(fault) => show_fault(rt, fault),
     }

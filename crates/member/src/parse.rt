@@ -1,10 +1,11 @@
 //! Values from text.
-use applications::{Asked, StockMessage, StockOperation};
+use applications::{Asked, RingOperation, StockMessage, StockOperation};
 use format::layout::MAX_DEPTH;
 use format::{Command, Digest, Height, Identifier, Key, Message, Name};
 use hex::FromHex;
 use seals::SECRET_LEN;
-use std::slice::Iter;
+use std::num::ParseIntError;
+use std::str::{FromStr, Split};
 use thiserror::Error;
 
 /// Why a text is not understood.
@@ -81,19 +82,23 @@ pub(crate) fn key(text: &str) -> Result<Key, ParseFault> {
     lower_hex(text).map(Key::from_bytes).ok_or(ParseFault::Key)
 }
 
-fn byte(text: &str) -> Result<u8, ParseFault> {
+/// A number within the range of its type.
+pub(crate) fn number<T: FromStr<Err = ParseIntError>>(text: &str) -> Result<T, ParseFault> {
     text.parse().map_err(|_| ParseFault::Number)
 }
 
-/// A signed number.
-pub(crate) fn signed(text: &str) -> Result<i64, ParseFault> {
-    text.parse().map_err(|_| ParseFault::Number)
+/// A step of the ring register, by the offset of the ring that it records.
+pub(crate) fn ring_step(text: &str) -> Result<Asked, ParseFault> {
+    Ok(Asked::Operation {
+        code: RingOperation::RecordOnly.into(),
+        value: number(text)?,
+    })
 }
 
 /// A step of the segment stock, as `cast:5`.
 pub(crate) fn stock_step(text: &str) -> Result<Asked, ParseFault> {
-    let (word, number) = text.split_once(':').ok_or(ParseFault::Step)?;
-    let value = signed(number)?;
+    let (word, value) = text.split_once(':').ok_or(ParseFault::Step)?;
+    let value = number(value)?;
     let operation = |operation: StockOperation| Asked::Operation {
         code: operation.into(),
         value,
@@ -113,24 +118,24 @@ pub(crate) fn stock_step(text: &str) -> Result<Asked, ParseFault> {
 }
 
 // The next operand.
-fn next<'a>(operands: &mut Iter<'_, &'a str>) -> Result<&'a str, ParseFault> {
-    operands.next().copied().ok_or(ParseFault::Command)
+fn next<'a>(operands: &mut Split<'a, char>) -> Result<&'a str, ParseFault> {
+    operands.next().ok_or(ParseFault::Command)
 }
 
-fn open(operands: &mut Iter<&str>) -> Result<Command, ParseFault> {
+fn open(operands: &mut Split<char>) -> Result<Command, ParseFault> {
     let child = identifier(next(operands)?)?;
     let key = key(next(operands)?)?;
     Ok(Command::Open { child, key })
 }
 
-fn change(operands: &mut Iter<&str>) -> Result<Command, ParseFault> {
+fn change(operands: &mut Split<char>) -> Result<Command, ParseFault> {
     let key = key(next(operands)?)?;
     Ok(Command::Change { key })
 }
 
-fn execute(operands: &mut Iter<&str>) -> Result<Command, ParseFault> {
-    let code = byte(next(operands)?)?;
-    let argument = signed(next(operands)?)?;
+fn execute(operands: &mut Split<char>) -> Result<Command, ParseFault> {
+    let code = number(next(operands)?)?;
+    let argument = number(next(operands)?)?;
     let target = identifier(next(operands)?)?;
     Ok(Command::Execute {
         code,
@@ -139,10 +144,10 @@ fn execute(operands: &mut Iter<&str>) -> Result<Command, ParseFault> {
     })
 }
 
-fn name(operands: &mut Iter<&str>) -> Result<Name, ParseFault> {
+fn name(operands: &mut Split<char>) -> Result<Name, ParseFault> {
     let sender = identifier(next(operands)?)?;
     let height = height(next(operands)?)?;
-    let index = byte(next(operands)?)?;
+    let index = number(next(operands)?)?;
     Ok(Name {
         height,
         sender,
@@ -150,17 +155,17 @@ fn name(operands: &mut Iter<&str>) -> Result<Name, ParseFault> {
     })
 }
 
-fn receive(operands: &mut Iter<&str>) -> Result<Command, ParseFault> {
+fn receive(operands: &mut Split<char>) -> Result<Command, ParseFault> {
     let name = name(operands)?;
-    let code = byte(next(operands)?)?;
-    let value = signed(next(operands)?)?;
+    let code = number(next(operands)?)?;
+    let value = number(next(operands)?)?;
     let message = Message { name, code, value };
     Ok(Command::Receive { message })
 }
 
-/// A command, by its word and its operands.
-pub(crate) fn command(parts: &[&str]) -> Result<Command, ParseFault> {
-    let mut operands = parts.iter();
+/// A command, its word and its operands joined by colons.
+pub(crate) fn command(text: &str) -> Result<Command, ParseFault> {
+    let mut operands = text.split(':');
     let command = match next(&mut operands)? {
         "open" => open(&mut operands)?,
         "change" => change(&mut operands)?,

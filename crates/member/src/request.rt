@@ -59,7 +59,8 @@ pub enum RequestFault {
     Memory(#[from(alloc)] AllocError),
 }
 
-fn head(heap: Global, chain: &str, height: &str, previous: &str) -> Result<Draft, ParseFault> {
+// A draft with no commands, from the words for its other values.
+fn head(heap: Global, [chain, height, previous]: &[&str; 3]) -> Result<Draft, ParseFault> {
     Ok(Draft {
         chain: parse::identifier(chain)?,
         height: parse::height(height)?,
@@ -71,7 +72,7 @@ fn head(heap: Global, chain: &str, height: &str, previous: &str) -> Result<Draft
 // An execute for each offset.
 fn rings(mut draft: Draft, target: Identifier, offsets: &[&str]) -> Result<Request, RequestFault> {
     for offset in offsets {
-        let argument = parse::signed(offset)?;
+        let argument = parse::number(offset)?;
         draft.commands.push(Command::Execute {
             code: RingOperation::RecordAndSend.into(),
             argument,
@@ -81,37 +82,25 @@ fn rings(mut draft: Draft, target: Identifier, offsets: &[&str]) -> Result<Reque
     Ok(Request::Rings { draft, target })
 }
 
-// A command, its operands joined by colons.
-fn command(heap: Global, word: &str) -> Result<Command, RequestFault> {
-    let parts: Vec<&str> = word.split(':').collect(heap)?;
-    Ok(parse::command(parts.as_slice())?)
-}
-
-fn commands(heap: Global, mut draft: Draft, words: &[&str]) -> Result<Request, RequestFault> {
+fn commands(mut draft: Draft, words: &[&str]) -> Result<Request, RequestFault> {
     for word in words {
-        draft.commands.push(command(heap, word)?)?;
+        draft.commands.push(parse::command(word)?)?;
     }
     Ok(Request::Compose { draft })
 }
 
-// A record of the ring register for each offset.
-fn offsets(heap: Global, words: &[&str]) -> Result<Vec<Asked>, RequestFault> {
-    let mut steps = Vec::new(heap);
-    for word in words {
-        steps.push(Asked::Operation {
-            code: RingOperation::RecordOnly.into(),
-            value: parse::signed(word)?,
-        })?;
-    }
-    Ok(steps)
-}
-
-fn stock_steps(heap: Global, words: &[&str]) -> Result<Vec<Asked>, RequestFault> {
-    let mut steps = Vec::new(heap);
-    for word in words {
-        steps.push(parse::stock_step(word)?)?;
-    }
-    Ok(steps)
+// A step from each word.
+fn steps<F: Fn(&str) -> Result<Asked, ParseFault>>(
+    heap: Global,
+    words: &[&str],
+    step: F,
+) -> Result<Vec<Asked>, RequestFault>
+    requires { F.IsAlwaysCallable step }
+{
+    words
+        .iter()
+        .map(|word| -> Result<Asked, RequestFault> { Ok(step(word)?) })
+        .try_collect(heap)
 }
 
 // Bytes in hexadecimal, or the fault where they are not.
@@ -136,18 +125,18 @@ fn frame_bytes(rt: &HostRuntime, word: &str) -> Result<Vec<u8>, ParseFault> {
 }
 
 fn ring_block(heap: Global, words: &[&str]) -> Result<Request, RequestFault> {
-    let [chain, height, previous, target, offsets @ ..] = words else {
+    let Some((values, [target, offsets @ ..])) = words.split_first_chunk() else {
         return Err(ParseFault::Missing.into());
     };
     let target = parse::identifier(target)?;
-    rings(head(heap, chain, height, previous)?, target, offsets)
+    rings(head(heap, values)?, target, offsets)
 }
 
 fn any_block(heap: Global, words: &[&str]) -> Result<Request, RequestFault> {
-    let [chain, height, previous, words @ ..] = words else {
+    let Some((values, words)) = words.split_first_chunk() else {
         return Err(ParseFault::Missing.into());
     };
-    commands(heap, head(heap, chain, height, previous)?, words)
+    commands(head(heap, values)?, words)
 }
 
 fn read_frame(rt: &HostRuntime, kind: Kind, words: &[&str]) -> Result<Request, RequestFault> {
@@ -183,10 +172,10 @@ fn by_word(rt: &HostRuntime, first: &str, words: &[&str]) -> Result<Request, Req
         "request" => read_frame(rt, Kind::Request, words),
         "certificate" => read_frame(rt, Kind::Certificate, words),
         "tally" => Ok(Request::TallyRings {
-            steps: offsets(heap, words)?,
+            steps: steps(heap, words, parse::ring_step)?,
         }),
         "stock" => Ok(Request::TallyStock {
-            steps: stock_steps(heap, words)?,
+            steps: steps(heap, words, parse::stock_step)?,
         }),
         "tag" => tag(heap, words),
         _ => Err(ParseFault::Word.into()),

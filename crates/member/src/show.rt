@@ -1,5 +1,5 @@
 //! Values in words.
-use format::Command;
+use format::{Command, Refusal};
 use std::fmt;
 
 /// Where a ring lies, by its offset in millimetres; left is negative.
@@ -45,4 +45,14 @@ impl fmt::Display for CommandWords {
             ),
         }
     }
+}
+
+/// Why something is refused, behind the number of the refusal.
+pub(crate) fn show_fault<F: Into<Refusal> + fmt::Display + Copy>(
+    rt: &HostRuntime,
+    fault: F,
+) -> anyhow::Result<()> {
+    let refusal: Refusal = fault.into();
+    println!(rt; "  refused, number {}: {fault}", refusal.number)?;
+    Ok(())
 }

@@ -23,6 +23,8 @@ fn show_stop<F: TryFrom<ApplicationFault, Error = ApplicationFault> + Display + 
     Ok(())
 }
 
+// `rings` and `stock` differ in the application, its faults and every text, so one function for both would be longer.
+
 /// The tally of ring records.
 pub(crate) fn rings(rt: &HostRuntime, steps: &[Asked]) -> anyhow::Result<()> {
     let tally = run_steps::<RingRegister>(steps);

@@ -7,8 +7,8 @@ use Rattle.format.specs.Meaning.{block_value}
 use Rattle.format.proofs.Composed.{composed_length}
 use Rattle.member.proofs.answer.encode.Goals as goal
 
-pub returns : goal.returns
-returns c =
+pub returns-clause-bytes : goal.returns-clause-bytes
+returns-clause-bytes c =
     let b = block_value c.args.block.now in
     let done = c.in_ok-len.ensures in
     let n = composed_length b _ c.in_ok-len.len (sym done.answer) in
