@@ -63,8 +63,9 @@ impl Keyed for Mark {
         self.target
     }
 
+    // The height once more, and first: it tells most marks apart, and the compiler may turn the tests of `==` round.
     fn has_key(&self, key: &Mark) -> bool {
-        *self == *key
+        self.message.name.height == key.message.name.height && *self == *key
     }
 }
 
@@ -91,7 +92,8 @@ impl Keyed for Outgoing {
         self.name.sender
     }
 
+    // The height first, as for marks.
     fn has_key(&self, key: &Name) -> bool {
-        self.name == *key
+        self.name.height == key.height && self.name == *key
     }
 }

@@ -22,7 +22,7 @@ pub(crate) fn clear(bytes: &mut [u8])
     ensures { bytes.new ≡ cleared bytes.old }
 {
     let end = slots(bytes).len() * SLOT_LEN;
-    bytes[..end].fill(0);
+    bytes[0..end].fill(0);
 }
 
 // Writes one slot over.

@@ -6,6 +6,13 @@ use crate::part::Part;
 
 pub mod methods;
 
+const SEAL_COUNT_LEN: usize = 1;
+
+const MEMBER_LEN: usize = 1;
+
+/// The most seals that a certificate has.
+pub const MAX_SEALS: u8 = 16;
+
 /// A block, and `count` votes from the place `first` of the frame on, each a member number and a seal of
 /// `width` bytes. They fill the frame.
 #[derive(Clone, Copy)]

@@ -17,10 +17,8 @@ fn numbers_in(bytes: &[u8]) -> [Number; MAX_DEPTH]
     ensures { result ≡ spec_numbers_in max_depth (drop depth_len bytes.now) }
 {
     let (numbers, _) = bytes[DEPTH_LEN..].as_chunks::<NUMBER_LEN>();
-    numbers
-        .first_chunk::<MAX_DEPTH>()
-        .unwrap()
-        .map(Number::from_be_bytes)
+    let [a, b, c, d] = *numbers.first_chunk::<MAX_DEPTH>().unwrap();
+    [a, b, c, d].map(Number::from_be_bytes)
 }
 
 /// The identifier that the bytes are, or none.

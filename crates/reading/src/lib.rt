@@ -11,8 +11,8 @@ mod operands;
 mod part;
 
 pub use block::{Head, read_block};
-pub use certificate::methods::{MAX_SEALS, read_certificate};
-pub use certificate::{Certificate, Vote};
+pub use certificate::methods::read_certificate;
+pub use certificate::{Certificate, MAX_SEALS, Vote};
 pub use command::{CommandPart, CommandView};
 pub use cursor::Cursor;
 pub use fields::{read_identifier, read_message, read_name};

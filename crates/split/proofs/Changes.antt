@@ -112,13 +112,13 @@ fits_turned s f g = λ i c x. cond_not (s c) (f c x) (g c x) i
 abbrev odd : IdentifierValue → Bool
 odd c = not (first_is_even c)
 
-step_first : (o : Operation) (m m' n : BooksValue) → first_is_even (chain_of o) ≡ true → Step m o m' → Step (joined m n) o (joined m' n)
+pub step_first : (o : Operation) (m m' n : BooksValue) → first_is_even (chain_of o) ≡ true → Step m o m' → Step (joined m n) o (joined m' n)
 step_first o m m' n e t = record {
   rows = rows_first first_is_even o m.rows m'.rows n.rows e t.rows;
   places = fits_first first_is_even o m.rows n.rows m.fits m'.fits n.fits e t.places;
 }
 
-step_second : (o : Operation) (m n n' : BooksValue) → first_is_even (chain_of o) ≡ false → Step n o n' → Step (joined m n) o (joined m n')
+pub step_second : (o : Operation) (m n n' : BooksValue) → first_is_even (chain_of o) ≡ false → Step n o n' → Step (joined m n) o (joined m n')
 step_second o m n n' e t = record {
   rows =
       sym (rows_turned first_is_even m.rows n'.rows)

@@ -3,17 +3,10 @@ ghost use Rattle.std.specs.Prelude.{◌≡◌, if◌then◌else◌, Some, None, 
 ghost use Rattle.std.specs.Option.{option_map};
 ghost use Rattle.reading.specs.Frames.{certificate_answer, certificate_in, vote_of, vote_value};
 
-use super::{Certificate, Vote};
+use super::{Certificate, MAX_SEALS, MEMBER_LEN, SEAL_COUNT_LEN, Vote};
 use crate::frame::{BLOCK_AT, said_len};
 use crate::part::{Part, ReadFault};
 use seals::Seals;
-
-const SEAL_COUNT_LEN: usize = 1;
-
-const MEMBER_LEN: usize = 1;
-
-/// The most seals that a certificate has.
-pub const MAX_SEALS: u8 = 16;
 
 /// The parts of a certificate frame under a scheme of seals.
 pub fn read_certificate<'a, S: Seals>(frame: &'a [u8]) -> Result<Certificate<'a>, ReadFault>

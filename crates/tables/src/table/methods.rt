@@ -22,7 +22,7 @@ impl<'a, R: Keyed + Copy> Table<'a, R> {
         ensures memory { memory result ≡ cleared blank rows.old }
     {
         let end = rows.len().min(MAX_ROWS);
-        rows[..end].fill(blank);
+        rows[0..end].fill(blank);
         Table { rows, count: 0 }
     }
 

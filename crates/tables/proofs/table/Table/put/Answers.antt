@@ -1,4 +1,4 @@
-use Rattle.std.proofs.Common.{◌∙◌, arith}
+use Rattle.std.proofs.Common.{arith}
 use Rattle.tables.proofs.Dense.{put_old, put_new, put_full}
 use Rattle.tables.proofs.table.Table.put.Goals as goal
 
@@ -15,7 +15,10 @@ returns-in-Some g c =
     record { change = a.change; rest = a.rest }
 
 pub returns-then-self-capacity-clause-change : goal.returns-then-self-capacity-clause-change
-returns-then-self-capacity-clause-change g c = put_full g.met.R.Keyed.decides c.args.self.now c.args.row (c.if-self-capacity.true ∙ c.capacity.ensures) (rw c.key.ensures at c.in_default.ensures)
+returns-then-self-capacity-clause-change g c =
+    let s = c.args.self.now.in_slice in
+    let l = c.args.self.now.in_limit in
+    put_full g.met.R.Keyed.decides c.args.self.now c.args.row (omega (arith, c.if-self-capacity.true, c.capacity.ensures)) (rw c.key.ensures at c.in_default.ensures)
 
 pub invariant_of-self-2 : goal.invariant_of-self-2
 invariant_of-self-2 g c =
