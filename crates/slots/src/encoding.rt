@@ -68,14 +68,15 @@ pub fn encode_record(row: &Record) -> [u8; SLOT_LEN]
     ensures fits { RowFits (held_record row.now) }
     ensures back { RowsReadBack }
 {
+    let Record { a, b, .. } = *row;
     let mut slot = Writer::new();
     slot.add(&[Kind::Record as u8]);
     slot.add(&row.identifier.to_bytes());
     slot.add(&row.owner.to_bytes());
     slot.add(&row.next.to_bytes());
     slot.add(&row.last.bytes);
-    slot.add(&value_to_bytes(row.a));
-    slot.add(&value_to_bytes(row.b));
+    slot.add(&value_to_bytes(a));
+    slot.add(&value_to_bytes(b));
     add_vote(&mut slot, row.vote);
     slot.into_bytes()
 }
